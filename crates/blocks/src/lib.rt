@@ -1,0 +1,1 @@
+// Blocks, links and the free list of a node's stretch.

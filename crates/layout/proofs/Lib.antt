@@ -1,0 +1,3 @@
+pub mod NodeRows
+pub mod MemoryRows
+pub mod Fits

@@ -1,0 +1,1 @@
+// Letters in their chains of blocks.
