@@ -6,7 +6,7 @@ use native.Mathlib.Omega.{arith}
 use Rattle.words.specs.Rows.{start}
 use Rattle.settings.specs.declared.Settings.{Settings}
 use Rattle.settings.specs.Range.{InRange}
-use Rattle.layout.specs.Places.{queueHead, taskHead, sendAt, ackAt, taskAt, blockAt, linkAt, nodeSize}
+use Rattle.layout.specs.Places.{nodesAt, queueHead, taskHead, sendAt, ackAt, taskAt, blockAt, nodeSize, memorySize}
 use Rattle.layout.specs.Rows.{width}
 use Rattle.layout.proofs.NodeRows.{row-fits, width-send, width-ack, width-task, width-block, start-send, start-ack, start-task, start-block}
 
@@ -30,3 +30,8 @@ module _ (s : Settings) where
 
   pub block-fits : (b : ℕ) → 1 ≤ b → b ≤ s .m → blockAt s b + s .b ≤ nodeSize s
   block-fits b l h = fits (76 + b) (s .b) (blockAt s b) (omega arith) (width-block s b l) (start-block s b l)
+
+-- the words before the stretches lie in the memory
+pub nodes-fit : (s : Settings) → nodesAt ≤ memorySize s
+unfolding memorySize
+nodes-fit s = omega arith

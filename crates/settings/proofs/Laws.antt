@@ -4,7 +4,8 @@ use mathlib.Core.Bool.{Bool, true, false, cond, _&&_}
 use Prim.Native.Nat.{ℕ, _≤_}
 use lib.Dec.{leb}
 use borrow.Author.Tests.{leb-true, le-leb}
-use Rattle.words.proofs.Lists.{and-true, and-join, split}
+use native.Mathlib.Omega.{arith}
+use Rattle.words.proofs.Lists.{and-true, and-join, told-no, told-yes}
 use Rattle.settings.specs.Limits.{Limits, within, blockWords, nodeBlocks, queueLength}
 use Rattle.settings.specs.Range.{inRange, Within, InRange}
 use Rattle.settings.specs.Made.{settingsOf, madeSettings}
@@ -70,3 +71,18 @@ module _ (B M S A T : ℕ) where
           pub made-all : within queueLength T ≡ true → Made (settingsOf B M S A T) ≡ madeSettings B M S A T
           unfolding madeSettings inRange
           made-all t = simp (b, m, s, a, t)
+
+-- ---- what the constructor's answer tells
+module _ (B M S A T : ℕ) where
+  pub told-refused : madeSettings B M S A T ≡ Refused → inRange (settingsOf B M S A T) ≡ false
+  unfolding madeSettings
+  told-refused e = told-no (inRange (settingsOf B M S A T)) (Made (settingsOf B M S A T)) Refused Refused (sym e) (λ q. let z : _≡_ {A = ℕ} 0 1 = cc in omega arith) refl
+
+  pub told-made : (g : Settings) → madeSettings B M S A T ≡ Made g → (inRange (settingsOf B M S A T) ≡ true) × (settingsOf B M S A T ≡ g)
+  unfolding madeSettings
+  told-made g e =
+      let y = told-yes (inRange (settingsOf B M S A T)) (Made (settingsOf B M S A T)) Refused (Made g) (sym e) (Made g) (λ q. let z : _≡_ {A = ℕ} 0 1 = cc in omega arith) refl in
+      (y .0, same (settingsOf B M S A T) g (y .1))
+    where
+      same : (x y : Settings) → Made x ≡ Made y → x ≡ y
+      same x y q = cc

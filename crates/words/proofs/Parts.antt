@@ -6,7 +6,7 @@ use native.Mathlib.Nat.{le-trans}
 use native.Mathlib.Numerals.{add-one}
 use native.Mathlib.Omega.{arith}
 use lib.ListN.{length, getD, take, drop, set, length-append, length-drop, take-append-drop, drop-of-length-le}
-use lib.Seq.{take-all, getD-take, getD-drop, length-take-le, take-at, drop-at, drop-drop, take-append-le, drop-append-le}
+use lib.Seq.{drop-append-add, take-all, getD-take, getD-drop, length-take-le, take-at, drop-at, drop-drop, take-append-le, drop-append-le}
 use borrow.Rule.Slice.PartMut.{putMid, post-is, mid-len, set-mid-at, put-same}
 use Rattle.words.specs.Words.{part, splice}
 
@@ -84,3 +84,12 @@ laid-all n r d h g = rw (drop-of-length-le d h, take-all n r g, append-nil)
 
 pub length-laid : (n : ℕ) (r d : List ℕ) → n ≤ length d → n ≤ length r → length (take n r ++ drop n d) ≡ length d
 length-laid n r d h g = simp (length-append, length-take-le n r g, length-drop) (omega arith)
+
+-- ---- a memory that is written from the front, part by part: the words p stand, then a part is lent and comes back as x
+pub grown : (m p x : List ℕ) (a e : ℕ) → length p ≡ a → a ≤ e → splice (p ++ drop a m) a e x ≡ (p ++ x) ++ drop e m
+grown m p x a e h g =
+    let q : e ≡ length p + (e - a) = omega arith in
+    let w : a + (e - a) ≡ e = omega arith in
+    let d : drop e (p ++ drop a m) ≡ drop e m =
+    ap (λ (k : ℕ). drop k (p ++ drop a m)) q ∙ drop-append-add p (drop a m) (e - a) ∙ drop-drop (e - a) a m ∙ ap (λ (k : ℕ). drop k m) w in
+    rw (take-at p (drop a m) a h, d, append-assoc p x (drop e m))

@@ -1,0 +1,102 @@
+use Rattle.layout.proofs.Fits.{nodes-fit}
+-- `setup::lay_nodes` meets its contract: after i turns i stretches are laid. Assumes nothing.
+use mathlib.Core.Path.{_≡_, refl, sym, ap, _∙_}
+use Prim.Native.Nat.{ℕ, _≤_, _-_, _+_}
+use native.Mathlib.Omega.{arith}
+use lib.ListN.{length, take}
+use lib.Seq.{length-take-le}
+use borrow.Author.Needs.{needs}
+use borrow.Rule.Slice.PartMut.{same-len-mid}
+use Rattle.words.proofs.Parts.{length-part}
+use Rattle.layout.specs.Places.{nodesAt, nodeSize, memorySize}
+use Rattle.setup.proofs.Laws.{laidNodes, nodes-none, nodes-all, node-back}
+use Rattle.setup.proofs.lay_nodes.Statement.{statement}
+use Rattle.setup.proofs.lay_nodes.Tie as tie
+
+abbrev Inv-loop : tie.InvT-loop
+Inv-loop memory₀ s words i₀ memory i = (i ≤ 6) × (length memory ≡ length memory₀) × (memory ≡ laidNodes s (take nodesAt memory₀) memory₀ i)
+
+abbrev μ-loop : tie.MeasureT-loop
+μ-loop memory₀ s words i₀ memory i = 6 - i
+
+node-size-requires : tie.Need-node-size-requires Inv-loop μ-loop
+node-size-requires c κs = search needs
+
+loop-holds : tie.Need-loop-holds Inv-loop μ-loop
+loop-holds c = (search needs, refl, nodes-none (c .before .before .args .s) (c .before .before .pre .range) (c .before .before .args .memory .now))
+
+node-at-requires : tie.Need-node-at-requires Inv-loop μ-loop
+node-at-requires c κs = search needs
+
+add-end : tie.Need-add-end Inv-loop μ-loop
+add-end c = search needs
+
+mul-lay-node : tie.Need-mul-lay-node Inv-loop μ-loop
+mul-lay-node c = search needs
+
+sub-lay-node : tie.Need-sub-lay-node Inv-loop μ-loop
+sub-lay-node c = search needs
+
+part-lay-node-start : tie.Need-part-lay-node-start Inv-loop μ-loop
+part-lay-node-start c = search needs
+
+part-lay-node-end : tie.Need-part-lay-node-end Inv-loop μ-loop
+part-lay-node-end c = search needs
+
+lay-node-requires : tie.Need-lay-node-requires Inv-loop μ-loop
+lay-node-requires c κs =
+    let x = c .before .before .before .before .before .before in
+    let a : ℕ = c .before .node-at .result in
+    let n : ℕ = c .before .before .before .before .node-size .result in
+    let e = c .before .node-at .ensures in
+    let f = c .before .before .before .before .node-size .ensures in
+    record { range = x .pre .range; long = length-part (c .before .before .before .loop .memory) a (a + n) (omega arith) (omega arith) ∙ omega arith }
+
+add-i : tie.Need-add-i Inv-loop μ-loop
+add-i c = search needs
+
+loop-less : tie.Need-loop-less Inv-loop μ-loop
+loop-less c = search needs
+
+loop-again : tie.Need-loop-again Inv-loop μ-loop
+loop-again c =
+    let x = c .before .before .before .before .before .before .before .before .before in
+    let l = c .before .before .before .before .before .before .loop in
+    let a : ℕ = c .before .before .before .before .node-at .result in
+    let n : ℕ = c .before .before .before .before .before .before .before .node-size .result in (
+      search needs,
+      same-len-mid a (a + n - a) (l .memory) (c .before .before .lay-node .last .0) (c .before .before .lay-node .kept .0) ∙ l .inv .1,
+      node-back (x .args .s) (x .pre .range) (take nodesAt (x .args .memory .now)) (x .args .memory .now) (l .memory) (c .before .before .lay-node .last .0) (l .i) a n
+          (c .before .before .before .before .node-at .ensures .is) (c .before .before .before .before .before .before .before .node-size .ensures .is) (length-take-le 536 (x .args .memory .now) (omega (arith, nodes-fit (x .args .s)))) (l .inv .2) (c .before .before .lay-node .ensures),
+    )
+
+same-length : tie.Need-same-length Inv-loop μ-loop
+same-length c = search needs
+
+returns : tie.Need-returns Inv-loop μ-loop
+returns c =
+    let x = c .before .before .before .before in
+    let l = c .before .loop in
+    let q : l .i ≡ 6 = omega arith in
+    l .inv .2 ∙ rw q (nodes-all (x .args .s) (x .pre .range) (take nodesAt (x .args .memory .now)) (x .args .memory .now) (x .pre .long))
+
+pub lay-nodes-spec : {M : Type 1} → statement M
+lay-nodes-spec =
+    tie.close
+    (tie.spec
+    Inv-loop
+    μ-loop
+    node-size-requires
+    loop-holds
+    node-at-requires
+    add-end
+    mul-lay-node
+    sub-lay-node
+    part-lay-node-start
+    part-lay-node-end
+    lay-node-requires
+    add-i
+    loop-less
+    loop-again
+    same-length
+    returns)

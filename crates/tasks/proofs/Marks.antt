@@ -1,0 +1,165 @@
+-- The marks of the test are counts: the mark of a seat is how many of the ids so far sit there. Assumes nothing.
+use mathlib.Core.Path.{_≡_, refl, sym, ap, _∙_}
+use mathlib.Core.Bool.{Bool, true, false, cond, _&&_, _||_, not, false≢true}
+use mathlib.Core.List.{List}
+use Prim.Native.Nat.{ℕ, zero, suc, _+_, _*_, _≤_, _<_}
+use native.Mathlib.Numerals.{add-one}
+use native.Mathlib.Omega.{arith}
+use lib.Dec.{eqb, leb}
+use lib.ListN.{length, getD, set, replicate, getD-replicate, length-set}
+use lib.Seq.{getD-set-same, getD-set-other}
+use borrow.Author.Tests.{eq-eqb, ne-eqb, eqb-true, le-leb, lt-leb, leb-true}
+use Rattle.words.specs.Words.{every}
+use Rattle.words.specs.Count.{hit, sum}
+use Rattle.words.proofs.Lists.{split, same?, and-true, and-join, and-false, every-at, every-all, every-not}
+use Rattle.words.proofs.Count.{hit-self, hit-other, sum-le}
+use Rattle.layout.specs.Places.{taskIds}
+use Rattle.tasks.specs.Table.{nodeOf, queueOf, holdsNone, hasSeat, shareSeat, seated, apart}
+
+-- a sum that is not 0 has a part that is not
+pub sum-some : (n : ℕ) (f : ℕ → ℕ) → 1 ≤ sum n f → (i : ℕ) × ((i < n) × (1 ≤ f i))
+unfolding sum
+sum-some zero f h = absurd (omega arith)
+sum-some (suc n) f h =
+    same? (f n) 0
+    (λ q e. let r = sum-some n f (omega arith) in (r .0, (omega arith, r .1 .1)))
+    (λ q e. (n, (omega arith, omega arith)))
+
+module _ (t : List ℕ) where
+  -- the number of the seat
+  abbrev pub seat : ℕ → ℕ
+  seat i = nodeOf t i * 64 + queueOf t i
+
+  -- 1 where id i sits on seat k, else 0
+  abbrev pub sits : ℕ → ℕ → ℕ
+  sits k i = cond (holdsNone t i) 0 (hit k (seat i))
+
+  -- id j is unbound, or no earlier id sits where it does
+  abbrev pub alone : ℕ → Bool
+  alone j = every j (λ i. holdsNone t i || (holdsNone t j || not (shareSeat t i j)))
+
+  abbrev pub fine : ℕ → Bool
+  fine id = holdsNone t id || hasSeat t id
+
+  pub record Good (n : ℕ) (marks : List ℕ) : Type 0 where
+    pub size : length marks ≡ 384
+    pub fits : (i : ℕ) → i < n → fine i ≡ true
+    pub lone : (j : ℕ) → j < n → alone j ≡ true
+    pub marked : (k : ℕ) → k < 384 → getD marks k 0 ≡ sum n (sits k)
+
+  pub good-start : Good 0 (replicate 384 0)
+  unfolding sum
+  good-start =
+      record {
+        size = refl;
+        fits = λ i h. absurd (omega arith);
+        lone = λ j h. absurd (omega arith);
+        marked = λ k h. getD-replicate 384 k 0 0 h;
+      }
+
+  -- one more of what holds below n
+  more-below : (P : ℕ → Type 0) (n : ℕ) → ((i : ℕ) → i < n → P i) → P n → (i : ℕ) → i < n + 1 → P i
+  more-below P n f p i h = same? i n (λ q e. rw q p) (λ q e. f i (omega arith))
+
+  module _ (n : ℕ) (marks : List ℕ) (g : Good n marks) where
+    -- an id that is unbound
+    pub good-none : holdsNone t n ≡ true → Good (n + 1) marks
+    unfolding sum
+    good-none e =
+        record {
+          size = g .size;
+          fits = more-below (λ i. fine i ≡ true) n (g .fits) (rw e);
+          lone = more-below (λ j. alone j ≡ true) n (g .lone) (every-all _ n (λ i h. rw e (or-true (holdsNone t i))));
+          marked = λ k h. g .marked k h ∙ rw (add-one n) (rw e (omega arith));
+        }
+      where
+        or-true : (b : Bool) → b || true ≡ true
+        or-true true = refl
+        or-true false = refl
+
+    module _ (e : holdsNone t n ≡ false) where
+      -- where two sit on one seat, they share it
+      shared : (i : ℕ) → holdsNone t i ≡ false → hasSeat t i ≡ true → hasSeat t n ≡ true → seat i ≡ seat n → shareSeat t i n ≡ true
+      unfolding hasSeat shareSeat
+      shared i f h k q =
+          let a = and-true (leb (nodeOf t i) 5) (leb (queueOf t i) 63) h in
+          let b = and-true (leb (nodeOf t n) 5) (leb (queueOf t n) 63) k in
+          let x = leb-true (queueOf t i) 63 (a .1) in
+          let y = leb-true (queueOf t n) 63 (b .1) in
+          and-join (eqb (nodeOf t i) (nodeOf t n)) (eqb (queueOf t i) (queueOf t n)) (eq-eqb (nodeOf t i) (nodeOf t n) (omega arith)) (eq-eqb (queueOf t i) (queueOf t n) (omega arith))
+
+      -- those who share a seat have one number for it
+      one-seat : (i : ℕ) → shareSeat t i n ≡ true → seat i ≡ seat n
+      unfolding shareSeat
+      one-seat i h =
+          let a = and-true (eqb (nodeOf t i) (nodeOf t n)) (eqb (queueOf t i) (queueOf t n)) h in
+          let x = eqb-true (nodeOf t i) (nodeOf t n) (a .0) in
+          let y = eqb-true (queueOf t i) (queueOf t n) (a .1) in
+          omega arith
+
+      -- a seat that no mark shows: nobody before shares it
+      free-alone : sum n (sits (seat n)) ≡ 0 → alone n ≡ true
+      free-alone z =
+          every-all _ n
+          (λ i h. split (holdsNone t i)
+          (λ f. rw f)
+          (λ f. rw (f, e)
+          (split (shareSeat t i n)
+          (λ q. absurd (let d : sits (seat n) i ≡ 1 = rw (f, sym (one-seat i q)) (hit-self (seat i)) in omega (arith, sum-le n (sits (seat n)) i h)))
+          (λ q. rw q))))
+
+      module _ (a : nodeOf t n ≤ 5) (b : queueOf t n ≤ 63) where
+        in-seat : hasSeat t n ≡ true
+        unfolding hasSeat
+        in-seat = and-join (leb (nodeOf t n) 5) (leb (queueOf t n) 63) (le-leb _ _ a) (le-leb _ _ b)
+
+        -- an id that sits where nobody does
+        pub good-seat : getD marks (seat n) 0 ≡ 0 → Good (n + 1) (set marks (seat n) 1)
+        unfolding sum
+        good-seat z =
+            let l = g .size in
+            let m : sum n (sits (seat n)) ≡ 0 = sym (g .marked (seat n) (omega arith)) ∙ z in
+            record {
+              size = rw length-set l;
+              fits = more-below (λ i. fine i ≡ true) n (g .fits) (rw (e, in-seat));
+              lone = more-below (λ j. alone j ≡ true) n (g .lone) (free-alone m);
+              marked = λ k h. rw (add-one n)
+                  (rw e (same? k (seat n)
+                  (λ q f. rw q (getD-set-same marks (seat n) 1 0 (omega arith) ∙ omega (arith, hit-self (seat n))))
+                  (λ q f. getD-set-other marks (seat n) k 1 0 q ∙ g .marked k h ∙ omega (arith, hit-other k (seat n) q))));
+            }
+
+        -- an id that sits where another does
+        pub bad-seat : n < taskIds → (getD marks (seat n) 0 ≡ 0 → ⊥) → false ≡ seated t && apart t
+        unfolding apart
+        bad-seat l z =
+            let r = sum-some n (sits (seat n)) (omega (arith, g .marked (seat n) (omega arith))) in
+            let i : ℕ = r .0 in
+            sym (rw (every-not alone taskIds n l (every-not _ n i (r .1 .0) (taken i (r .1 .0) (r .1 .1)))) (and-false (seated t)))
+          where
+            taken : (i : ℕ) → i < n → 1 ≤ sits (seat n) i → holdsNone t i || (holdsNone t n || not (shareSeat t i n)) ≡ false
+            taken i h k =
+                split (holdsNone t i)
+                (λ f. absurd (let d : 1 ≤ 0 = rw f at k in omega arith))
+                (λ f. let d : 1 ≤ hit (seat n) (seat i) = rw f at k in
+                rw (f, e)
+                (same? (seat n) (seat i)
+                (λ q w. rw (shared i f (rw f at (g .fits i h)) in-seat (sym q)))
+                (λ q w. absurd (omega (arith, hit-other (seat n) (seat i) q)))))
+
+      -- a node or a queue that is too great
+      pub bad-range : n < taskIds → hasSeat t n ≡ false → false ≡ seated t && apart t
+      unfolding seated
+      bad-range l f = sym (rw (every-not fine taskIds n l (rw (e, f))))
+
+  pub bad-node : (n : ℕ) → 5 < nodeOf t n → hasSeat t n ≡ false
+  unfolding hasSeat
+  bad-node n h = rw (lt-leb _ _ h)
+
+  pub bad-queue : (n : ℕ) → 63 < queueOf t n → hasSeat t n ≡ false
+  unfolding hasSeat
+  bad-queue n h = rw (lt-leb _ _ h) (and-false (leb (nodeOf t n) 5))
+
+  pub good-end : (marks : List ℕ) → Good taskIds marks → true ≡ seated t && apart t
+  unfolding seated apart
+  good-end marks g = sym (and-join _ _ (every-all fine taskIds (g .fits)) (every-all alone taskIds (g .lone)))
