@@ -2,7 +2,7 @@
 use mathlib.Core.Bool.{cond}
 use mathlib.Core.List.{List, [], _∷_, _++_}
 use Prim.Native.Nat.{ℕ, zero, suc, _+_, _-_, _*_}
-use lib.Dec.{eqb}
+use lib.Dec.{ltb}
 use lib.ListN.{replicate}
 use Rattle.settings.specs.declared.Settings.{Settings}
 use Rattle.layout.specs.Places.{nodes, positionWords, blocksAt}
@@ -10,7 +10,7 @@ use Rattle.layout.specs.Places.{nodes, positionWords, blocksAt}
 module _ (s : Settings) where
   -- 'free list 1, 2, .. M': the link of block b
   unfoldable pub nextFree : ℕ → ℕ
-  nextFree b = cond (eqb b (s .m)) 0 (b + 1)
+  nextFree b = cond (ltb b (s .m)) (b + 1) 0
 
   -- 'all other block words 0': block b, its B-1 words and its link
   unfoldable pub freshBlock : ℕ → List ℕ

@@ -50,7 +50,8 @@ fn next_free(s: Settings, b: usize) -> u32
     requires { ⌜ b ≤ s .m ⌝ }
     ensures { λ r. ⌜ r ≡ nextFree s b ⌝ }
 {
-    if b == s.m { 0 } else { (b + 1) as u32 }
+    let next = b + 1;
+    if s.m < next { 0 } else { next as u32 }
 }
 
 // The words of a stretch before its blocks: the first free block is 1, all else is 0.
