@@ -1,13 +1,15 @@
 -- Case splits that keep their equation, tests joined, and functions of numbers with one value put anew. Assumes nothing.
-use mathlib.Core.Path.{_≡_, refl, sym, ap, _∙_, fun-ext}
+use mathlib.Core.Path.{_≡_, refl, sym, ap, ap₂, _∙_, fun-ext}
 use mathlib.Core.Bool.{Bool, true, false, cond, _&&_, false≢true}
+use mathlib.Core.List.{List, [], _∷_}
 use mathlib.Core.Logic.{_⊎_, inl, inr, ⊎-elim}
 use Prim.Native.Nat.{ℕ, zero, suc, _+_, _≤_, _<_}
 use native.Mathlib.Omega.{arith}
 use native.Mathlib.Decide.{decLe}
 use lib.Dec.{eqb, leb}
+use lib.ListN.{length, getD}
 use borrow.Author.Tests.{eqb-true, eqb-false, eq-eqb, ne-eqb, leb-true, leb-false}
-use Rattle.words.specs.Words.{every}
+use Rattle.words.specs.Words.{every, all, alike}
 
 -- a case split on a test that keeps the equation
 pub split {ℓ} : {P : Type ℓ} (b : Bool) → (b ≡ true → P) → (b ≡ false → P) → P
@@ -61,6 +63,41 @@ module _ (p : ℕ → Bool) where
   pub every-not : (n k : ℕ) → k < n → p k ≡ false → every n p ≡ false
   every-not n k l e =
       split (every n p) (λ t. absurd (false≢true (sym e ∙ every-at n t k l))) (λ t. t)
+
+-- ---- each number of a list passes the test
+module _ (p : ℕ → Bool) where
+  pub all-head : (x : ℕ) (l : List ℕ) → all p (x ∷ l) ≡ true → (p x ≡ true) × (all p l ≡ true)
+  unfolding all
+  all-head x l e = and-true (p x) (all p l) e
+
+  pub all-cons : (x : ℕ) (l : List ℕ) → p x ≡ true → all p l ≡ true → all p (x ∷ l) ≡ true
+  unfolding all
+  all-cons x l e f = and-join (p x) (all p l) e f
+
+  pub all-at : (l : List ℕ) → all p l ≡ true → (k : ℕ) → k < length l → p (getD l k 0) ≡ true
+  all-at [] e k h = absurd (omega arith)
+  all-at (x ∷ l) e zero h = all-head x l e .0
+  all-at (x ∷ l) e (suc k) h = all-at l (all-head x l e .1) k (omega arith)
+
+  pub at-all : (l : List ℕ) → ((k : ℕ) → k < length l → p (getD l k 0) ≡ true) → all p l ≡ true
+  unfolding all
+  at-all [] f = refl
+  at-all (x ∷ l) f = and-join (p x) (all p l) (f 0 (omega arith)) (at-all l (λ k h. f (suc k) (omega arith)))
+
+-- ---- lists that are the same
+pub alike-same : (l m : List ℕ) → alike l m ≡ true → l ≡ m
+unfolding alike
+alike-same [] [] e = refl
+alike-same [] (y ∷ m) e = absurd (false≢true e)
+alike-same (x ∷ l) [] e = absurd (false≢true e)
+alike-same (x ∷ l) (y ∷ m) e =
+    let h = and-true (eqb x y) (alike l m) e in
+    ap₂ (λ (a : ℕ) (b : List ℕ). a ∷ b) (eqb-true x y (h .0)) (alike-same l m (h .1))
+
+pub same-alike : (l : List ℕ) → alike l l ≡ true
+unfolding alike
+same-alike [] = refl
+same-alike (x ∷ l) = and-join (eqb x x) (alike l l) (eq-eqb x x refl) (same-alike l)
 
 -- ---- a function of numbers with one value put anew
 abbrev pub put {ℓ} : {B : Type ℓ} → (ℕ → B) → ℕ → B → ℕ → B
