@@ -1,0 +1,3 @@
+pub mod Round
+pub mod Ring
+pub mod InRow
