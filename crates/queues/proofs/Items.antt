@@ -1,7 +1,7 @@
 -- Laws of the live items, of the gap flag and of taking an item out, on lists. Assumes nothing.
 use mathlib.Core.Path.{_≡_, refl, sym, ap, _∙_}
 use mathlib.Core.Bool.{Bool, true, false, cond}
-use mathlib.Core.List.{List, [], _∷_, _++_}
+use mathlib.Core.List.{List, [], _∷_, _++_, append-nil}
 use Prim.Native.Nat.{ℕ, zero, suc, _+_, _≤_, _<_}
 use native.Mathlib.Omega.{arith}
 use lib.Dec.{eqb}
@@ -37,6 +37,11 @@ live-zero xs = refl
 pub live-snoc : (xs : List ℕ) (x : ℕ) → (x ≡ 0 → ⊥) → live (xs ++ x ∷ []) ≡ live xs ++ x ∷ []
 unfolding live
 live-snoc xs x h = live-append xs (x ∷ []) ∙ rw (ne-eqb x 0 h)
+
+-- a gap adds nothing
+pub live-gap : (xs : List ℕ) (x : ℕ) → x ≡ 0 → live (xs ++ x ∷ []) ≡ live xs
+unfolding live
+live-gap xs x h = live-append xs (x ∷ []) ∙ rw h (append-nil (live xs))
 
 pub length-live : (xs : List ℕ) → length (live xs) ≤ length xs
 unfolding live

@@ -54,6 +54,15 @@ module _ (k : Kind) (l : List ℕ) (q : ℕ) where
       let e : itemAt k l q i ≡ x = rw (add-zero i) at (h 0 (omega arith)) in
       rw (e, run-is (i + 1) xs (λ j p. ap (itemAt k l q) (step i j) ∙ h (suc j) (omega arith)))
 
+  -- one item more at the end
+  pub run-more : (i n : ℕ) → run k l q i (n + 1) ≡ run k l q i n ++ itemAt k l q (i + n) ∷ []
+  unfolding run
+  run-more i n = rw (add-one n) (snoc i n)
+    where
+      snoc : (i n : ℕ) → run k l q i (suc n) ≡ run k l q i n ++ itemAt k l q (i + n) ∷ []
+      snoc i zero = rw (add-zero i)
+      snoc i (suc n) = ap (λ (t : List ℕ). itemAt k l q i ∷ t) (snoc (i + 1) n ∙ ap (λ (j : ℕ). run k l q (i + 1) n ++ itemAt k l q j ∷ []) (step i n))
+
   pub ring-of : Queue k l q → Ring k l q (contents k l q)
   ring-of w =
       let n = length-run 0 (items k l q) in
