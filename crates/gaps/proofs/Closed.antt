@@ -6,10 +6,10 @@ use mathlib.Core.List.{List, [], _∷_, _++_}
 use Prim.Native.Nat.{ℕ, zero, suc, _+_, _-_, _%_, _≤_, _<_}
 use native.Mathlib.Nat.{mod-lt}
 use native.Mathlib.Omega.{arith}
-use lib.Dec.{eqb}
+use lib.Dec.{eqb, ltb}
 use lib.ListN.{length, getD, set, length-set}
 use lib.Seq.{getD-set-same, getD-set-other}
-use borrow.Author.Tests.{eqb-true, eq-eqb, ne-eqb}
+use borrow.Author.Tests.{eq-eqb, ne-eqb, lt-ltb, le-ltb}
 use Rattle.words.proofs.Lists.{same?, split, both, and-true, and-false, le-or-lt}
 use Rattle.settings.specs.declared.Settings.{Settings}
 use Rattle.layout.specs.Places.{itemsWord, gapWord}
@@ -21,8 +21,8 @@ use Rattle.queues.specs.Items.{live, gapFlag}
 use Rattle.queues.specs.Tasks.{TaskQueue}
 use Rattle.queues.proofs.Round.{places-apart}
 use Rattle.queues.proofs.Ring.{Ring, Off, ring-of, ring-queue, ring-contents, ring-off, ring-room, ring-full}
-use Rattle.queues.proofs.Items.{FirstLive, length-live, live-first, live-live, live-all, live-fewer, live-snoc, gap-live}
-use Rattle.queues.proofs.Tasks.{TaskRing, task-of, task-queue, task-flagged, task-added, task-counted}
+use Rattle.queues.proofs.Items.{FirstLive, length-live, live-first, live-live, live-all, live-fewer, live-snoc, gap-live, gap-small}
+use Rattle.queues.proofs.Tasks.{TaskRing, task-of, task-queue, task-flagged, task-room, task-full}
 use Rattle.gaps.specs.Close.{laid, closed, cramped, roomy, taskAppended, taskAnswer}
 
 -- ---- what stands in the words after laying
@@ -101,3 +101,56 @@ module _ (s : Settings) (l : List ℕ) (q : ℕ) (xs : List ℕ) (t : TaskRing s
   unfolding roomy cramped
   roomy-gap e g =
       rw (eq-eqb (items k l q) (s .t) (count ∙ e), eq-eqb (getD l (q + gapWord) 0) 1 (t .flag ∙ g)) (closed-task s l q xs (t .ring))
+
+  -- AN APPEND WITH ROOM
+  pub append-room : (x : ℕ) → (x ≡ 0 → ⊥) → length xs < s .t → TaskRing s (taskAppended s l q x) q (xs ++ x ∷ []) × (taskAnswer s l q ≡ Done)
+  append-room x n h = task-room s (roomy s l q) q xs (roomy-room h) x n h
+
+  -- AN APPEND THAT CLOSES GAPS
+  pub append-gap : (x : ℕ) → (x ≡ 0 → ⊥) → length xs ≡ s .t → gapFlag xs ≡ 1 → TaskRing s (taskAppended s l q x) q (live xs ++ x ∷ []) × (taskAnswer s l q ≡ Done)
+  append-gap x n e g = task-room s (roomy s l q) q (live xs) (roomy-gap e g) x n (omega (arith, live-fewer xs g))
+
+  -- AN APPEND THAT FINDS NO ROOM
+  pub append-full : (x : ℕ) → length xs ≡ s .t → gapFlag xs ≡ 0 → TaskRing s (taskAppended s l q x) q xs × (taskAnswer s l q ≡ Full)
+  append-full x e g = task-full s (roomy s l q) q xs (roomy-full g) x (omega arith)
+
+  -- the three cases
+  pub append-cases {ℓ} : {P : Type ℓ} → (length xs < s .t → P) → (length xs ≡ s .t → gapFlag xs ≡ 1 → P) → (length xs ≡ s .t → gapFlag xs ≡ 0 → P) → P
+  append-cases f g h =
+      ⊎-elim
+      (λ le. let e : length xs ≡ s .t = omega (arith, t .ring .fits) in
+      same? (gapFlag xs) 1 (λ a b. g e a) (λ a b. h e (omega (arith, gap-small xs))))
+      f
+      (le-or-lt (s .t) (length xs))
+
+  pub append-keeps : (x : ℕ) → (x ≡ 0 → ⊥) → TaskQueue s (taskAppended s l q x) q
+  append-keeps x n =
+      append-cases
+      (λ h. task-queue s (taskAppended s l q x) q (append-room x n h .0))
+      (λ e g. task-queue s (taskAppended s l q x) q (append-gap x n e g .0))
+      (λ e g. task-queue s (taskAppended s l q x) q (append-full x e g .0))
+
+  -- 'append to a queue at its length, gaps closed': an append is refused where the live items have reached the length
+  pub append-refused : taskAnswer s l q ≡ cond (ltb (length (live xs)) (s .t)) Done Full
+  append-refused =
+      append-cases
+      (λ h. append-room 1 (λ e. omega arith) h .1 ∙ rw (lt-ltb (length (live xs)) (s .t) (omega (arith, length-live xs))))
+      (λ e g. append-gap 1 (λ z. omega arith) e g .1 ∙ rw (lt-ltb (length (live xs)) (s .t) (omega (arith, live-fewer xs g))))
+      (λ e g. append-full 1 e g .1 ∙ rw (le-ltb (length (live xs)) (s .t) (omega (arith, ap length (live-all xs g)))))
+
+  -- and puts its item behind the live ones
+  pub append-live : (x : ℕ) → (x ≡ 0 → ⊥) → length (live xs) < s .t → live (contents (taskKind s) (taskAppended s l q x) q) ≡ live xs ++ x ∷ []
+  append-live x n m =
+      append-cases
+      (λ h. ap live (ring-contents (taskKind s) (taskAppended s l q x) q (append-room x n h .0 .ring)) ∙ live-snoc xs x n)
+      (λ e g. ap live (ring-contents (taskKind s) (taskAppended s l q x) q (append-gap x n e g .0 .ring)) ∙ live-snoc (live xs) x n ∙ ap (λ (ys : List ℕ). ys ++ x ∷ []) (live-live xs))
+      (λ e g. absurd (omega (arith, ap length (live-all xs g))))
+
+-- CLOSING LEAVES THE VIEW
+pub live-closed : (s : Settings) (l : List ℕ) (q : ℕ) → Queue (taskKind s) l q → live (contents (taskKind s) (closed s l q) q) ≡ live (contents (taskKind s) l q)
+live-closed s l q w =
+    let xs : List ℕ = contents (taskKind s) l q in
+    ap live (ring-contents (taskKind s) (closed s l q) q (closed-task s l q xs (ring-of (taskKind s) l q w) .ring)) ∙ live-live xs
+
+pub closed-keeps : (s : Settings) (l : List ℕ) (q : ℕ) → Queue (taskKind s) l q → TaskQueue s (closed s l q) q
+closed-keeps s l q w = task-queue s (closed s l q) q (closed-task s l q (contents (taskKind s) l q) (ring-of (taskKind s) l q w))

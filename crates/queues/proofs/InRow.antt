@@ -78,10 +78,12 @@ module _ (wide : ℕ → ℕ) (l : List ℕ) (r : ℕ) where
       pub but-begin : (v : ℕ) → But wide l r (set m q v) (set p 0 v)
       but-begin v = rw (add-zero q) at (but-store 0 v (omega (arith, w .high)))
 
+      -- the slot at place i of a queue that starts with slot f
+      pub but-place : (f i v : ℕ) → But wide l r (set m (slotFrom k q f i) v) (set p (slotFrom k 0 f i) v)
+      but-place f i v = but-set wide l r b (k .head + (f + i) % k .slots) (omega (arith, w .room, mod-lt (f + i) {m = k .slots} (omega (arith, w .some)))) v
+
       pub but-slot : (i v : ℕ) → But wide l r (set m (slotAt k m q i) v) (set p (slotAt k p 0 i) v)
-      but-slot i v =
-          rw but-start
-          (but-set wide l r b (k .head + (start k p 0 + i) % k .slots) (omega (arith, w .room, mod-lt (start k p 0 + i) {m = k .slots} (omega (arith, w .some)))) v)
+      but-slot i v = rw but-start (but-place (start k p 0) i v)
 
       pub but-counted : (i : ℕ) → i < k .head → But wide l r (counted m (q + i)) (counted p (0 + i))
       unfolding counted
@@ -107,7 +109,7 @@ module _ (wide : ℕ → ℕ) (l : List ℕ) (r : ℕ) where
       but-dropped =
           rw (but-items b)
           (rw (but-start b)
-          (but-store (but-begin (rw (but-start b) at (but-slot b 0 0)) ((start k p 0 + 1) % k .slots)) 1 (items k p 0 - 1) (omega (arith, w .high, w .low))))
+          (but-store (but-begin (but-place b (start k p 0) 0 0) ((start k p 0 + 1) % k .slots)) 1 (items k p 0 - 1) (omega (arith, w .high, w .low))))
 
       -- A QUEUE OF THE WORDS IS A QUEUE OF THE ROW, and the other way round
       pub ring-up : (xs : List ℕ) → q + wide r ≤ length m → Ring k p 0 xs → Ring k m q xs

@@ -13,8 +13,9 @@ use borrow.Author.Tests.{lt-ltb, le-ltb}
 use Rattle.words.specs.Words.{more}
 use Rattle.words.proofs.Lists.{same?, le-or-lt}
 use Rattle.queues.specs.declared.Kind.{Kind}
+use Rattle.queues.specs.declared.Appended.the-variants.{Done, Full}
 use Rattle.queues.specs.Queue.{start, items, slotFrom, slotAt, itemAt, run, contents, Placed, Queue}
-use Rattle.queues.specs.Moves.{counted, added, appended, dropped}
+use Rattle.queues.specs.Moves.{counted, added, appended, appendAnswer, dropped}
 use Rattle.queues.proofs.Round.{places-apart}
 
 -- ONE STATEMENT: the queue at word q of l holds the items xs, and every slot behind them holds 0
@@ -172,6 +173,14 @@ module _ (k : Kind) (l : List ℕ) (q : ℕ) (xs : List ℕ) (r : Ring k l q xs)
   pub ring-full : (x : ℕ) → k .slots ≤ length xs → appended k l q x ≡ counted l (q + k .full)
   unfolding appended
   ring-full x h = rw (le-ltb (items k l q) (k .slots) (omega (arith, r .count)))
+
+  pub answer-room : length xs < k .slots → appendAnswer k l q ≡ Done
+  unfolding appendAnswer
+  answer-room h = rw (lt-ltb (items k l q) (k .slots) (omega (arith, r .count)))
+
+  pub answer-full : k .slots ≤ length xs → appendAnswer k l q ≡ Full
+  unfolding appendAnswer
+  answer-full h = rw (le-ltb (items k l q) (k .slots) (omega (arith, r .count)))
 
 -- DROP
 module _ (k : Kind) (l : List ℕ) (q x : ℕ) (xs : List ℕ) (r : Ring k l q (x ∷ xs)) where

@@ -9,11 +9,12 @@ use lib.Seq.{getD-set-same, getD-set-other}
 use Rattle.words.specs.Words.{more}
 use Rattle.settings.specs.declared.Settings.{Settings}
 use Rattle.layout.specs.Places.{gapWord, emptyWord, taskFullWord}
+use Rattle.queues.specs.declared.Appended.the-variants.{Done, Full}
 use Rattle.queues.specs.Queue.{items, itemAt, slotAt, contents, taskKind, Queue}
-use Rattle.queues.specs.Moves.{counted, added, appended, dropped}
+use Rattle.queues.specs.Moves.{counted, added, appended, appendAnswer, dropped}
 use Rattle.queues.specs.Items.{live, gapFlag, without}
 use Rattle.queues.specs.Tasks.{TaskQueue}
-use Rattle.queues.proofs.Ring.{Ring, Off, ring-of, ring-queue, ring-contents, ring-off, ring-added, ring-counted}
+use Rattle.queues.proofs.Ring.{Ring, Off, ring-of, ring-queue, ring-contents, ring-off, ring-added, ring-room, ring-full, answer-room, answer-full}
 use Rattle.queues.proofs.Items.{FirstLive, gap-snoc}
 use Rattle.queues.proofs.Views.{word-added}
 
@@ -70,6 +71,15 @@ module _ (s : Settings) (l : List ℕ) (q : ℕ) (xs : List ℕ) (t : TaskRing s
       first : (xs : List ℕ) → FirstLive xs → FirstLive (xs ++ x ∷ [])
       first [] f = λ g e. n e
       first (y ∷ xs) f = λ g e. f (omega arith) e
+
+  -- AN APPEND, by whether there is room
+  pub task-room : (x : ℕ) → (x ≡ 0 → ⊥) → length xs < s .t → TaskRing s (appended (taskKind s) l q x) q (xs ++ x ∷ []) × (appendAnswer (taskKind s) l q ≡ Done)
+  task-room x n h =
+      (rw (ring-room (taskKind s) l q xs (t .ring) x h) (task-added x n h), answer-room (taskKind s) l q xs (t .ring) h)
+
+  pub task-full : (x : ℕ) → s .t ≤ length xs → TaskRing s (appended (taskKind s) l q x) q xs × (appendAnswer (taskKind s) l q ≡ Full)
+  task-full x h =
+      (rw (ring-full (taskKind s) l q xs (t .ring) x h) (task-counted taskFullWord (omega arith) (omega arith)), answer-full (taskKind s) l q xs (t .ring) h)
 
 -- THE FLAG SET ANEW makes a task queue of a queue whose first item is live
 pub task-flagged : (s : Settings) (l : List ℕ) (q : ℕ) (xs : List ℕ) → Ring (taskKind s) l q xs → FirstLive xs
