@@ -74,6 +74,9 @@ module _ (k : Kind) (l : List ℕ) (q : ℕ) (w : Queue k l q) where
     pub queue-dropped : Queue k (dropped k l q) q
     queue-dropped = ring-queue k (dropped k l q) q ring-tail
 
+    pub items-dropped : items k (dropped k l q) q ≡ items k l q - 1
+    items-dropped = ring-tail .count ∙ length-run k l q 1 (items k l q - 1)
+
     pub contents-dropped : contents k l q ≡ itemAt k l q 0 ∷ contents k (dropped k l q) q
     contents-dropped = contents-cons ∙ ap (λ (t : List ℕ). itemAt k l q 0 ∷ t) (sym (ring-contents k (dropped k l q) q ring-tail))
 
