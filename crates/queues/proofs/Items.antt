@@ -125,6 +125,13 @@ live-without-at xs i h =
     ∙ ap (λ (n : ℕ). live (without n (take i xs ++ y ∷ vs))) (sym (length-take-le i xs (omega arith)))
     ∙ live-without (take i xs) y vs
 
+-- the live items round a live one
+pub live-split : (xs : List ℕ) (i : ℕ) → i < length xs → (getD xs i 0 ≡ 0 → ⊥) → live xs ≡ live (take i xs) ++ getD xs i 0 ∷ live (drop (suc i) xs)
+live-split xs i h n =
+    let y : ℕ = getD xs i 0 in
+    let vs : List ℕ = drop (suc i) xs in
+    ap live (split-at xs i 0 h) ∙ live-append (take i xs) (y ∷ vs) ∙ ap (λ (l : List ℕ). live (take i xs) ++ l) (live-cons y vs n)
+
 pub first-without : (i : ℕ) (xs : List ℕ) → FirstLive xs → FirstLive (without i xs)
 unfolding without
 first-without i [] f = f
