@@ -3,7 +3,7 @@ use mathlib.Core.Path.{_≡_, refl, sym, ap, _∙_, fun-ext}
 use mathlib.Core.Logic.{⊎-elim}
 use mathlib.Core.List.{List, [], _∷_, _++_}
 use Prim.Native.Nat.{ℕ, zero, suc, _+_, _-_, _*_, _≤_, _<_}
-use native.Mathlib.Nat.{suc-mul, zero-mul, add-zero}
+use native.Mathlib.Nat.{suc-mul, zero-mul, add-zero, zero-add}
 use native.Mathlib.Omega.{arith}
 use lib.ListN.{length, getD, set, take, drop, length-drop}
 use lib.Seq.{drop-set-lt, drop-set-add, take-set-le, take-set-lt, length-take-le, getD-take, getD-drop, sets}
@@ -113,3 +113,27 @@ module _ (width : ℕ → ℕ) (l : List ℕ) (r : ℕ) (p : List ℕ) (g : star
           (λ lt. part-after l (start width r) (start width r + width r) h g p z′ (start width k) (start width k + width k) (start-lt width r k lt))
           (le-or-lt k r)
           ∙ ap (λ (n : ℕ). take n (drop (start width k) l)) d
+
+-- WORDS m THAT DIFFER FROM l IN ROW r ALONE, which is p: what is read and stored at place i of the row is read and stored at place 0 + i of p
+pub record But (width : ℕ → ℕ) (l : List ℕ) (r : ℕ) (m p : List ℕ) : Type 0 where
+  pub rows : row width m ≡ put (row width l) r p
+
+module _ (width : ℕ → ℕ) (l : List ℕ) (r : ℕ) where
+  pub but-none : But width l r l (row width l r)
+  but-none = record { rows = fun-ext (λ k. same? k r (λ q e. rw (e, q)) (λ q e. rw e)) }
+
+  module _ {m p : List ℕ} (b : But width l r m p) (i : ℕ) (h : i < width r) where
+    pub but-get : getD m (start width r + i) 0 ≡ getD p (0 + i) 0
+    but-get =
+        sym (getD-row width m r i h)
+        ∙ ap (λ (R : ℕ → List ℕ). getD (R r) i 0) (b .rows)
+        ∙ ap (λ (x : List ℕ). getD x i 0) (put-same (row width l) r p)
+        ∙ ap (λ (n : ℕ). getD p n 0) (sym (zero-add i))
+
+    pub but-set : (v : ℕ) → But width l r (set m (start width r + i) v) (set p (0 + i) v)
+    but-set v = record {
+      rows = row-set width m r i v h
+        ∙ ap (λ (R : ℕ → List ℕ). put R r (set (R r) i v)) (b .rows)
+        ∙ put-put (row width l) r p (set (put (row width l) r p r) i v)
+        ∙ ap (λ (x : List ℕ). put (row width l) r (set x i v)) (put-same (row width l) r p)
+        ∙ ap (λ (n : ℕ). put (row width l) r (set p n v)) (sym (zero-add i)) }

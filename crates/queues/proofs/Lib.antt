@@ -1,0 +1,6 @@
+pub mod Round
+pub mod Ring
+pub mod InRow
+pub mod Items
+pub mod Tasks
+pub mod Views

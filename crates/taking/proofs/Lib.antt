@@ -1,0 +1,4 @@
+pub mod Turns
+pub mod Taken
+pub mod First
+pub mod InRow
