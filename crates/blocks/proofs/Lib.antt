@@ -1,2 +1,4 @@
 pub mod Steps
 pub mod Taking
+pub mod Chains
+pub mod Rows

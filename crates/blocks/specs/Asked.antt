@@ -8,10 +8,9 @@ use Rattle.layout.specs.Places.{firstFreeAt}
 use Rattle.layout.specs.Asked.{Stretch}
 use Rattle.blocks.specs.Chain.{chain, after, free, Within, Once}
 
--- the n blocks from b on, one at least, are blocks of the stretch
+-- the n blocks from b on are blocks of the stretch
 pub record Walks (s : Settings) (node : List ℕ) (n b : ℕ) : Type 0 where
   pub stretch : Stretch s node
-  pub some : 1 ≤ n
   pub within : Within (s .m) (chain s node n b)
 
 -- the free list: its blocks are blocks, no two the same, and the last link is 0

@@ -42,6 +42,7 @@ pub fn set_link(node: &mut [u32], s: Settings, b: u32, next: u32)
 // The last of the `owed` blocks from b on: each link followed leaves one block fewer owed.
 pub fn last_of(node: &[u32], s: Settings, b: u32, owed: usize) -> u32
     requires { ⌜ Walks s (now node) owed b ⌝ }
+    requires { ⌜ 1 ≤ owed ⌝ }
     ensures { λ r. ⌜ r ≡ after s (now (node .entry)) (owed - 1) b ⌝ }
 {
     if owed == 1 {
@@ -55,6 +56,7 @@ pub fn last_of(node: &[u32], s: Settings, b: u32, owed: usize) -> u32
 // Puts the chain of `owed` blocks from b on, in its order, before the free list.
 pub fn give_back(node: &mut [u32], s: Settings, b: u32, owed: usize)
     requires { ⌜ Walks s (now node) owed b ⌝ }
+    requires { ⌜ 1 ≤ owed ⌝ }
     ensures { λ _. ⌜ now (node .exit) ≡ givenBack s (now (node .entry)) owed b ⌝ }
 {
     let last = last_of(node, s, b, owed);

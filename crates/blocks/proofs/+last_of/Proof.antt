@@ -25,7 +25,7 @@ module _ (t : ℕ) where
   link-of-requires : lts.Need-link-of-requires calls Pre own.Post
   link-of-requires c κs =
       let p = c .before .before .pre .1 in
-      (p .stretch, within-step _ _ _ _ _ (p .some) (p .within) .0)
+      (p .0 .stretch, within-step _ _ _ _ _ (p .1) (p .0 .within) .0)
 
   sub-last-of : lts.Need-sub-last-of calls Pre own.Post
   sub-last-of c = omega arith
@@ -33,7 +33,7 @@ module _ (t : ℕ) where
   last-of-requires : lts.Need-last-of-requires calls Pre own.Post
   last-of-requires c κs =
       let p = c .before .before .before .pre .1 in
-      (omega arith, record { stretch = p .stretch; some = omega arith; within = rw (c .link-of .ensures) (within-step _ _ _ _ _ (p .some) (p .within) .1) })
+      (omega arith, (record { stretch = p .0 .stretch; within = rw (c .link-of .ensures) (within-step _ _ _ _ _ (p .1) (p .0 .within) .1) }, omega arith))
 
   returns : lts.Need-returns calls Pre own.Post
   returns c = sym (after-none _ _ _ _ (omega arith))
