@@ -1,7 +1,7 @@
 // Letters in their chains of blocks: read, written and copied.
 use settings::Settings;
 ghost use mathlib.Core.Path.{_≡_};
-ghost use Prim.Native.Nat.{_+_, _-_, _≤_, _<_};
+ghost use Prim.Native.Nat.{_+_, _-_, _≤_, _<_, min};
 ghost use lib.ListN.{length, take, drop};
 ghost use lib.Seq.{sets};
 ghost use Rattle.layout.specs.Places.{blockAt};
@@ -31,6 +31,13 @@ pub fn told_length(node: &[u32], s: Settings, b: u32) -> u32
     word_of(node, s, b, 4)
 }
 
+// The lesser of two counts.
+fn fewer(a: usize, b: usize) -> usize
+    ensures { λ r. ⌜ r ≡ min a b ⌝ }
+{
+    if a < b { a } else { b }
+}
+
 // The words of block b from word `at` on, as many as `out` has room for; how many they are.
 pub fn read_block(node: &[u32], s: Settings, b: u32, at: usize, out: &mut [u32]) -> usize
     requires { ⌜ Stretch s (now node) ⌝ }
@@ -40,7 +47,7 @@ pub fn read_block(node: &[u32], s: Settings, b: u32, at: usize, out: &mut [u32])
     ensures got { λ _. ⌜ now (out .exit) ≡ onto (piece s (now (node .entry)) b at (length (now (out .entry)))) (now (out .entry)) ⌝ }
 {
     let left = s.b - 1 - at;
-    let n = if out.len() < left { out.len() } else { left };
+    let n = fewer(out.len(), left);
     let a = layout::block_at(s, b as usize) + at;
     let e = a + n;
     words::copy(&mut out[0..n], &node[a..e]);
@@ -83,11 +90,7 @@ pub fn write_block(node: &mut [u32], s: Settings, b: u32, words: &[u32]) -> usiz
     ensures stored { λ _. ⌜ now (node .exit) ≡ sets (now (node .entry)) (blockAt s b) (take (s .b - 1) (now (words .entry))) ⌝ }
 {
     let room = s.b - 1;
-    let n = if words.len() < room {
-        words.len()
-    } else {
-        room
-    };
+    let n = fewer(words.len(), room);
     let a = layout::block_at(s, b as usize);
     let e = a + n;
     words::copy(&mut node[a..e], &words[0..n]);

@@ -1,225 +1,122 @@
+-- `letters::read_chain` meets its contract. The measure is the number of blocks that are owed. Assumes nothing.
+use mathlib.Core.Path.{_∙_}
+use Prim.Native.Nat.{_+_, _≤_}
+use lib.ListN.{length}
+use borrow.Author.Needs.{needs}
+use Rattle.letters.proofs.Steps.{head-in, covers-some, covers-skip, covers-rest, piece-most, read-none, read-skip, read-both}
+use native.Mathlib.Omega.{arith}
 use Prim.Native.Nat.{ℕ, _<_}
 use borrow.Fn.Kinds.{In}
 use borrow.Fn.PlainCycle.{Measures, is, falls, and}
-use Rattle.letters.proofs.read_chain.Reads as read-chain
-use Rattle.letters.proofs.read_chain.Kinds as read-chain-kinds
-use Rattle.letters.proofs.+read_chain.Lts-read_chain as read-chain-lts
+use Rattle.letters.proofs.read_chain.Reads as own
+use Rattle.letters.proofs.read_chain.Kinds as kinds
+use Rattle.letters.proofs.+read_chain.Lts-read_chain as lts
 use Rattle.blocks.proofs.link_of.Reads as link-of-reads
 use Rattle.letters.proofs.read_block.Reads as read-block-reads
 use Rattle.letters.proofs.+read_chain.{statement}
 use Rattle.letters.proofs.+read_chain.Tie.{close}
 
-abbrev μ-read-chain : Measures 2 read-chain-kinds.ps ℕ
-μ-read-chain κs a = ?
+abbrev μ : Measures 2 kinds.ps ℕ
+μ κs a = a .1 .1 .1 .0
 
-abbrev read-chain-at : ℕ → In 2 read-chain-kinds.ps
-read-chain-at t =
-    and 2 read-chain-kinds.ps (is 2 read-chain-kinds.ps μ-read-chain t) read-chain.Pre
+module _ (t : ℕ) where
+  abbrev Pre : In 2 kinds.ps
+  Pre = and 2 kinds.ps (is 2 kinds.ps μ t) own.Pre
 
-abbrev read-chain-below : ℕ → In 2 read-chain-kinds.ps
-read-chain-below t =
-    and 2 read-chain-kinds.ps (falls 2 read-chain-kinds.ps _<_ μ-read-chain t) read-chain.Pre
+  abbrev calls : lts.Claims
+  calls = (link-of-reads.Asked, link-of-reads.Learnt, and 2 kinds.ps (falls 2 kinds.ps _<_ μ t) own.Pre, own.Post, read-block-reads.Asked, read-block-reads.Learnt)
 
--- src/lib.rt:57:9
-read-chain-returns : (t : ℕ) → read-chain-lts.Need-returns (
-  link-of-reads.Asked,
-  link-of-reads.Learnt,
-  read-chain-below t,
-  read-chain.Post,
-  read-block-reads.Asked,
-  read-block-reads.Learnt,
-) (read-chain-at t) read-chain.Post
-read-chain-returns t c = ?
+  returns : lts.Need-returns calls Pre own.Post
+  returns c = read-none _ _ (c .if1 .taken)
 
--- src/lib.rt:59:9
-read-chain-link-of-requires : (t : ℕ) → read-chain-lts.Need-link-of-requires (
-  link-of-reads.Asked,
-  link-of-reads.Learnt,
-  read-chain-below t,
-  read-chain.Post,
-  read-block-reads.Asked,
-  read-block-reads.Learnt,
-) (read-chain-at t) read-chain.Post
-read-chain-link-of-requires t c κs = ?
+  link-of-requires : lts.Need-link-of-requires calls Pre own.Post
+  link-of-requires c κs =
+      let x = c .before .before .before in
+      let p = x .pre .1 in
+      let o : 1 ≤ x .args .owed = covers-some (x .args .s) (x .args .node .now) (x .args .owed) (x .args .b) (x .args .at + length (x .args .out .now)) p (omega arith) in
+      (p .walks .stretch, head-in (x .args .s) (x .args .node .now) (x .args .owed) (x .args .b) (p .walks) o)
 
--- src/lib.rt:60:16
-read-chain-sub-room : (t : ℕ) → read-chain-lts.Need-sub-room (
-  link-of-reads.Asked,
-  link-of-reads.Learnt,
-  read-chain-below t,
-  read-chain.Post,
-  read-block-reads.Asked,
-  read-block-reads.Learnt,
-) (read-chain-at t) read-chain.Post
-read-chain-sub-room t c = ?
+  sub-room : lts.Need-sub-room calls Pre own.Post
+  sub-room c = search needs
 
--- src/lib.rt:62:35
-read-chain-sub-read-chain : (t : ℕ) → read-chain-lts.Need-sub-read-chain (
-  link-of-reads.Asked,
-  link-of-reads.Learnt,
-  read-chain-below t,
-  read-chain.Post,
-  read-block-reads.Asked,
-  read-block-reads.Learnt,
-) (read-chain-at t) read-chain.Post
-read-chain-sub-read-chain t c = ?
+  sub-read-chain : lts.Need-sub-read-chain calls Pre own.Post
+  sub-read-chain c =
+      let x = c .before .before .before .before .before .before in
+      let p = x .pre .1 in
+      let o : 1 ≤ x .args .owed = covers-some (x .args .s) (x .args .node .now) (x .args .owed) (x .args .b) (x .args .at + length (x .args .out .now)) p (omega arith) in
+      o
 
--- src/lib.rt:62:9
-read-chain-read-chain-requires : (t : ℕ) → read-chain-lts.Need-read-chain-requires (
-  link-of-reads.Asked,
-  link-of-reads.Learnt,
-  read-chain-below t,
-  read-chain.Post,
-  read-block-reads.Asked,
-  read-block-reads.Learnt,
-) (read-chain-at t) read-chain.Post
-read-chain-read-chain-requires t c κs = ?
+  read-chain-requires : lts.Need-read-chain-requires calls Pre own.Post
+  read-chain-requires c κs =
+      let x = c .before .before .before .before .before .before .before in
+      let p = x .pre .1 in
+      let o : 1 ≤ x .args .owed = covers-some (x .args .s) (x .args .node .now) (x .args .owed) (x .args .b) (x .args .at + length (x .args .out .now)) p (omega arith) in
+      (omega arith, covers-skip (x .args .s) (x .args .node .now) (x .args .owed) (x .args .b) (p .walks) o (x .args .at) (length (x .args .out .now)) _ (p .room) (c .before .before .before .link-of .ensures) (c .before .if2 .taken))
 
--- src/lib.rt:64:13
-read-chain-read-block-requires : (t : ℕ) → read-chain-lts.Need-read-block-requires (
-  link-of-reads.Asked,
-  link-of-reads.Learnt,
-  read-chain-below t,
-  read-chain.Post,
-  read-block-reads.Asked,
-  read-block-reads.Learnt,
-) (read-chain-at t) read-chain.Post
-read-chain-read-block-requires t c κs = ?
+  read-block-requires : lts.Need-read-block-requires calls Pre own.Post
+  read-block-requires c κs =
+      let x = c .before .before .before .before .before .before .before in
+      let p = x .pre .1 in
+      let o : 1 ≤ x .args .owed = covers-some (x .args .s) (x .args .node .now) (x .args .owed) (x .args .b) (x .args .at + length (x .args .out .now)) p (omega arith) in
+      (p .walks .stretch, (head-in (x .args .s) (x .args .node .now) (x .args .owed) (x .args .b) (p .walks) o, c .before .if2 .left))
 
--- src/lib.rt:65:35
-read-chain-sub-read-chain-2 : (t : ℕ) → read-chain-lts.Need-sub-read-chain-2 (
-  link-of-reads.Asked,
-  link-of-reads.Learnt,
-  read-chain-below t,
-  read-chain.Post,
-  read-block-reads.Asked,
-  read-block-reads.Learnt,
-) (read-chain-at t) read-chain.Post
-read-chain-sub-read-chain-2 t c = ?
+  sub-read-chain-2 : lts.Need-sub-read-chain-2 calls Pre own.Post
+  sub-read-chain-2 c =
+      let x = c .before .before .before .before .before .before .before .before .before .before in
+      let p = x .pre .1 in
+      let o : 1 ≤ x .args .owed = covers-some (x .args .s) (x .args .node .now) (x .args .owed) (x .args .b) (x .args .at + length (x .args .out .now)) p (omega arith) in
+      o
 
--- src/lib.rt:65:48
-read-chain-mul-read-chain : (t : ℕ) → read-chain-lts.Need-mul-read-chain (
-  link-of-reads.Asked,
-  link-of-reads.Learnt,
-  read-chain-below t,
-  read-chain.Post,
-  read-block-reads.Asked,
-  read-block-reads.Learnt,
-) (read-chain-at t) read-chain.Post
-read-chain-mul-read-chain t c = ?
+  mul-read-chain : lts.Need-mul-read-chain calls Pre own.Post
+  mul-read-chain c =
+      let x = c .before .before .before .before .before .before .before .before .before .before in
+      let p = x .pre .1 in
+      let o : 1 ≤ x .args .owed = covers-some (x .args .s) (x .args .node .now) (x .args .owed) (x .args .b) (x .args .at + length (x .args .out .now)) p (omega arith) in
+      omega (arith, c .before .before .read-block .ensures .0, piece-most (x .args .s) (x .args .node .now) (x .args .owed) (x .args .b) (p .walks) o (x .args .at) (length (x .args .out .now)))
 
--- src/lib.rt:65:48
-read-chain-sub-read-chain-3 : (t : ℕ) → read-chain-lts.Need-sub-read-chain-3 (
-  link-of-reads.Asked,
-  link-of-reads.Learnt,
-  read-chain-below t,
-  read-chain.Post,
-  read-block-reads.Asked,
-  read-block-reads.Learnt,
-) (read-chain-at t) read-chain.Post
-read-chain-sub-read-chain-3 t c = ?
+  sub-read-chain-3 : lts.Need-sub-read-chain-3 calls Pre own.Post
+  sub-read-chain-3 c =
+      let x = c .before .before .before .before .before .before .before .before .before .before in
+      let p = x .pre .1 in
+      let o : 1 ≤ x .args .owed = covers-some (x .args .s) (x .args .node .now) (x .args .owed) (x .args .b) (x .args .at + length (x .args .out .now)) p (omega arith) in
+      omega (arith, c .before .before .read-block .ensures .0, piece-most (x .args .s) (x .args .node .now) (x .args .owed) (x .args .b) (p .walks) o (x .args .at) (length (x .args .out .now)))
 
--- src/lib.rt:65:48
-read-chain-part-read-chain-start : (t : ℕ) → read-chain-lts.Need-part-read-chain-start (
-  link-of-reads.Asked,
-  link-of-reads.Learnt,
-  read-chain-below t,
-  read-chain.Post,
-  read-block-reads.Asked,
-  read-block-reads.Learnt,
-) (read-chain-at t) read-chain.Post
-read-chain-part-read-chain-start t c = ?
+  part-read-chain-start : lts.Need-part-read-chain-start calls Pre own.Post
+  part-read-chain-start c =
+      let x = c .before .before .before .before .before .before .before .before .before .before in
+      let p = x .pre .1 in
+      let o : 1 ≤ x .args .owed = covers-some (x .args .s) (x .args .node .now) (x .args .owed) (x .args .b) (x .args .at + length (x .args .out .now)) p (omega arith) in
+      omega (arith, c .before .before .read-block .ensures .0, piece-most (x .args .s) (x .args .node .now) (x .args .owed) (x .args .b) (p .walks) o (x .args .at) (length (x .args .out .now)))
 
--- src/lib.rt:65:48
-read-chain-part-read-chain-end : (t : ℕ) → read-chain-lts.Need-part-read-chain-end (
-  link-of-reads.Asked,
-  link-of-reads.Learnt,
-  read-chain-below t,
-  read-chain.Post,
-  read-block-reads.Asked,
-  read-block-reads.Learnt,
-) (read-chain-at t) read-chain.Post
-read-chain-part-read-chain-end t c = ?
+  part-read-chain-end : lts.Need-part-read-chain-end calls Pre own.Post
+  part-read-chain-end c = search needs
 
--- src/lib.rt:65:9
-read-chain-read-chain-requires-2 : (t : ℕ) → read-chain-lts.Need-read-chain-requires-2 (
-  link-of-reads.Asked,
-  link-of-reads.Learnt,
-  read-chain-below t,
-  read-chain.Post,
-  read-block-reads.Asked,
-  read-block-reads.Learnt,
-) (read-chain-at t) read-chain.Post
-read-chain-read-chain-requires-2 t c κs = ?
+  read-chain-requires-2 : lts.Need-read-chain-requires-2 calls Pre own.Post
+  read-chain-requires-2 c κs =
+      let x = c .before .before .before .before .before .before .before .before .before .before .before in
+      let p = x .pre .1 in
+      let o : 1 ≤ x .args .owed = covers-some (x .args .s) (x .args .node .now) (x .args .owed) (x .args .b) (x .args .at + length (x .args .out .now)) p (omega arith) in
+      (omega arith, covers-rest (x .args .s) (x .args .node .now) (x .args .owed) (x .args .b) (p .walks) o (x .args .at) (length (x .args .out .now)) _ (p .room) (c .before .before .before .before .before .before .before .link-of .ensures) _ _ (c .before .before .before .before .before .if2 .left) (c .before .before .before .read-block .ensures .0) (c .before .before .before .read-block .kept .1 .1 .1 .1 .0))
 
--- src/lib.rt:51:1
-read-chain-same-length : (t : ℕ) → read-chain-lts.Need-same-length (
-  link-of-reads.Asked,
-  link-of-reads.Learnt,
-  read-chain-below t,
-  read-chain.Post,
-  read-block-reads.Asked,
-  read-block-reads.Learnt,
-) (read-chain-at t) read-chain.Post
-read-chain-same-length t c = ?
+  same-length : lts.Need-same-length calls Pre own.Post
+  same-length c = c .before .before .read-chain .kept .1 .1 .1 .1 .1 .0
 
--- src/lib.rt:51:1
-read-chain-returns-2 : (t : ℕ) → read-chain-lts.Need-returns-2 (
-  link-of-reads.Asked,
-  link-of-reads.Learnt,
-  read-chain-below t,
-  read-chain.Post,
-  read-block-reads.Asked,
-  read-block-reads.Learnt,
-) (read-chain-at t) read-chain.Post
-read-chain-returns-2 t c = ?
+  returns-2 : lts.Need-returns-2 calls Pre own.Post
+  returns-2 c =
+      let x = c .before .before .before .before .before .before .before .before .before .before in
+      let p = x .pre .1 in
+      let o : 1 ≤ x .args .owed = covers-some (x .args .s) (x .args .node .now) (x .args .owed) (x .args .b) (x .args .at + length (x .args .out .now)) p (omega arith) in
+      read-skip (x .args .s) (x .args .node .now) (x .args .owed) (x .args .b) (p .walks) o (x .args .at) _ (length (x .args .out .now)) _ (c .before .before .before .before .before .before .link-of .ensures) (c .before .before .before .before .if2 .taken) (c .before .before .read-chain .ensures)
 
--- src/lib.rt:51:1
-read-chain-same-length-2 : (t : ℕ) → read-chain-lts.Need-same-length-2 (
-  link-of-reads.Asked,
-  link-of-reads.Learnt,
-  read-chain-below t,
-  read-chain.Post,
-  read-block-reads.Asked,
-  read-block-reads.Learnt,
-) (read-chain-at t) read-chain.Post
-read-chain-same-length-2 t c = ?
+  same-length-2 : lts.Need-same-length-2 calls Pre own.Post
+  same-length-2 c = search needs
 
--- src/lib.rt:51:1
-read-chain-returns-3 : (t : ℕ) → read-chain-lts.Need-returns-3 (
-  link-of-reads.Asked,
-  link-of-reads.Learnt,
-  read-chain-below t,
-  read-chain.Post,
-  read-block-reads.Asked,
-  read-block-reads.Learnt,
-) (read-chain-at t) read-chain.Post
-read-chain-returns-3 t c = ?
+  returns-3 : lts.Need-returns-3 calls Pre own.Post
+  returns-3 c =
+      let x = c .before .before .before .before .before .before .before .before .before .before .before .before .before .before in
+      let p = x .pre .1 in
+      let o : 1 ≤ x .args .owed = covers-some (x .args .s) (x .args .node .now) (x .args .owed) (x .args .b) (x .args .at + length (x .args .out .now)) p (omega arith) in
+      read-both (x .args .s) (x .args .node .now) (x .args .owed) (x .args .b) (p .walks) o (x .args .at) _ _ (x .args .out .now) _ _ (c .before .before .before .before .before .before .before .before .before .before .link-of .ensures) (c .before .before .before .before .before .before .before .before .if2 .left) (c .before .before .before .before .before .before .read-block .ensures .0) (c .before .before .before .before .before .before .read-block .ensures .1) (c .before .before .read-chain2 .ensures)
 
 pub +read-chain-spec : {M : Type 1} → statement M
-+read-chain-spec = close μ-read-chain λ t. read-chain-lts.spec (
-  link-of-reads.Asked,
-  link-of-reads.Learnt,
-  read-chain-below t,
-  read-chain.Post,
-  read-block-reads.Asked,
-  read-block-reads.Learnt,
-)
-    (read-chain-at t)
-    read-chain.Post
-    (read-chain-returns t)
-    (read-chain-link-of-requires t)
-    (read-chain-sub-room t)
-    (read-chain-sub-read-chain t)
-    (read-chain-read-chain-requires t)
-    (read-chain-read-block-requires t)
-    (read-chain-sub-read-chain-2 t)
-    (read-chain-mul-read-chain t)
-    (read-chain-sub-read-chain-3 t)
-    (read-chain-part-read-chain-start t)
-    (read-chain-part-read-chain-end t)
-    (read-chain-read-chain-requires-2 t)
-    (read-chain-same-length t)
-    (read-chain-returns-2 t)
-    (read-chain-same-length-2 t)
-    (read-chain-returns-3 t)
++read-chain-spec = close μ (λ t. lts.spec (calls t) (Pre t) own.Post (returns t) (link-of-requires t) (sub-room t) (sub-read-chain t) (read-chain-requires t) (read-block-requires t) (sub-read-chain-2 t) (mul-read-chain t) (sub-read-chain-3 t) (part-read-chain-start t) (part-read-chain-end t) (read-chain-requires-2 t) (same-length t) (returns-2 t) (same-length-2 t) (returns-3 t))

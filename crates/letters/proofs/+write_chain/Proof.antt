@@ -1,165 +1,79 @@
+-- `letters::write_chain` meets its contract. The measure is the number of blocks that are owed. Assumes nothing.
+use mathlib.Core.Path.{sym, _∙_}
+use Prim.Native.Nat.{_≤_}
+use lib.ListN.{length-take}
+use borrow.Author.Needs.{needs}
+use Rattle.letters.proofs.Steps.{head-in, laid-none, walks-laid, laid-step}
+use native.Mathlib.Omega.{arith}
 use Prim.Native.Nat.{ℕ, _<_}
 use borrow.Fn.Kinds.{In}
 use borrow.Fn.PlainCycle.{Measures, is, falls, and}
-use Rattle.letters.proofs.write_chain.Reads as write-chain
-use Rattle.letters.proofs.write_chain.Kinds as write-chain-kinds
-use Rattle.letters.proofs.+write_chain.Lts-write_chain as write-chain-lts
+use Rattle.letters.proofs.write_chain.Reads as own
+use Rattle.letters.proofs.write_chain.Kinds as kinds
+use Rattle.letters.proofs.+write_chain.Lts-write_chain as lts
 use Rattle.blocks.proofs.link_of.Reads as link-of-reads
 use Rattle.letters.proofs.write_block.Reads as write-block-reads
 use Rattle.letters.proofs.+write_chain.{statement}
 use Rattle.letters.proofs.+write_chain.Tie.{close}
 
-abbrev μ-write-chain : Measures 2 write-chain-kinds.ps ℕ
-μ-write-chain κs a = ?
+abbrev μ : Measures 2 kinds.ps ℕ
+μ κs a = a .1 .1 .1 .0
 
-abbrev write-chain-at : ℕ → In 2 write-chain-kinds.ps
-write-chain-at t =
-    and 2 write-chain-kinds.ps (is 2 write-chain-kinds.ps μ-write-chain t) write-chain.Pre
+module _ (t : ℕ) where
+  abbrev Pre : In 2 kinds.ps
+  Pre = and 2 kinds.ps (is 2 kinds.ps μ t) own.Pre
 
-abbrev write-chain-below : ℕ → In 2 write-chain-kinds.ps
-write-chain-below t =
-    and 2 write-chain-kinds.ps (falls 2 write-chain-kinds.ps _<_ μ-write-chain t) write-chain.Pre
+  abbrev calls : lts.Claims
+  calls = (link-of-reads.Asked, link-of-reads.Learnt, write-block-reads.Asked, write-block-reads.Learnt, and 2 kinds.ps (falls 2 kinds.ps _<_ μ t) own.Pre, own.Post)
 
--- src/lib.rt:99:9
-write-chain-returns : (t : ℕ) → write-chain-lts.Need-returns (
-  link-of-reads.Asked,
-  link-of-reads.Learnt,
-  write-block-reads.Asked,
-  write-block-reads.Learnt,
-  write-chain-below t,
-  write-chain.Post,
-) (write-chain-at t) write-chain.Post
-write-chain-returns t c = ?
+  returns : lts.Need-returns calls Pre own.Post
+  returns c = let x = c .before .before .before in sym (laid-none (x .args .s) (x .args .node .now) (x .args .owed) (x .args .b) (x .pre .1) (x .args .words .now) (c .if1 .taken))
 
--- src/lib.rt:101:9
-write-chain-link-of-requires : (t : ℕ) → write-chain-lts.Need-link-of-requires (
-  link-of-reads.Asked,
-  link-of-reads.Learnt,
-  write-block-reads.Asked,
-  write-block-reads.Learnt,
-  write-chain-below t,
-  write-chain.Post,
-) (write-chain-at t) write-chain.Post
-write-chain-link-of-requires t c κs = ?
+  link-of-requires : lts.Need-link-of-requires calls Pre own.Post
+  link-of-requires c κs =
+      let x = c .before .before .before .before in
+      let p = x .pre .1 in
+      let o : 1 ≤ x .args .owed = omega arith in
+      (p .stretch, head-in (x .args .s) (x .args .node .now) (x .args .owed) (x .args .b) p o)
 
--- src/lib.rt:102:9
-write-chain-write-block-requires : (t : ℕ) → write-chain-lts.Need-write-block-requires (
-  link-of-reads.Asked,
-  link-of-reads.Learnt,
-  write-block-reads.Asked,
-  write-block-reads.Learnt,
-  write-chain-below t,
-  write-chain.Post,
-) (write-chain-at t) write-chain.Post
-write-chain-write-block-requires t c κs = ?
+  write-block-requires : lts.Need-write-block-requires calls Pre own.Post
+  write-block-requires c κs =
+      let x = c .before .before .before .before .before .before in
+      let p = x .pre .1 in
+      let o : 1 ≤ x .args .owed = omega arith in
+      (p .stretch, head-in (x .args .s) (x .args .node .now) (x .args .owed) (x .args .b) p o)
 
--- src/lib.rt:104:32
-write-chain-sub-write-chain : (t : ℕ) → write-chain-lts.Need-sub-write-chain (
-  link-of-reads.Asked,
-  link-of-reads.Learnt,
-  write-block-reads.Asked,
-  write-block-reads.Learnt,
-  write-chain-below t,
-  write-chain.Post,
-) (write-chain-at t) write-chain.Post
-write-chain-sub-write-chain t c = ?
+  sub-write-chain : lts.Need-sub-write-chain calls Pre own.Post
+  sub-write-chain c = omega arith
 
--- src/lib.rt:104:42
-write-chain-mul-write-chain : (t : ℕ) → write-chain-lts.Need-mul-write-chain (
-  link-of-reads.Asked,
-  link-of-reads.Learnt,
-  write-block-reads.Asked,
-  write-block-reads.Learnt,
-  write-chain-below t,
-  write-chain.Post,
-) (write-chain-at t) write-chain.Post
-write-chain-mul-write-chain t c = ?
+  mul-write-chain : lts.Need-mul-write-chain calls Pre own.Post
+  mul-write-chain c = omega (arith, simp length-take at (c .before .before .before .write-block .ensures .0))
 
--- src/lib.rt:104:42
-write-chain-sub-write-chain-2 : (t : ℕ) → write-chain-lts.Need-sub-write-chain-2 (
-  link-of-reads.Asked,
-  link-of-reads.Learnt,
-  write-block-reads.Asked,
-  write-block-reads.Learnt,
-  write-chain-below t,
-  write-chain.Post,
-) (write-chain-at t) write-chain.Post
-write-chain-sub-write-chain-2 t c = ?
+  sub-write-chain-2 : lts.Need-sub-write-chain-2 calls Pre own.Post
+  sub-write-chain-2 c = omega (arith, simp length-take at (c .before .before .before .write-block .ensures .0))
 
--- src/lib.rt:104:42
-write-chain-part-write-chain-start : (t : ℕ) → write-chain-lts.Need-part-write-chain-start (
-  link-of-reads.Asked,
-  link-of-reads.Learnt,
-  write-block-reads.Asked,
-  write-block-reads.Learnt,
-  write-chain-below t,
-  write-chain.Post,
-) (write-chain-at t) write-chain.Post
-write-chain-part-write-chain-start t c = ?
+  part-write-chain-start : lts.Need-part-write-chain-start calls Pre own.Post
+  part-write-chain-start c = omega (arith, simp length-take at (c .before .before .before .write-block .ensures .0))
 
--- src/lib.rt:104:42
-write-chain-part-write-chain-end : (t : ℕ) → write-chain-lts.Need-part-write-chain-end (
-  link-of-reads.Asked,
-  link-of-reads.Learnt,
-  write-block-reads.Asked,
-  write-block-reads.Learnt,
-  write-chain-below t,
-  write-chain.Post,
-) (write-chain-at t) write-chain.Post
-write-chain-part-write-chain-end t c = ?
+  part-write-chain-end : lts.Need-part-write-chain-end calls Pre own.Post
+  part-write-chain-end c = search needs
 
--- src/lib.rt:104:5
-write-chain-write-chain-requires : (t : ℕ) → write-chain-lts.Need-write-chain-requires (
-  link-of-reads.Asked,
-  link-of-reads.Learnt,
-  write-block-reads.Asked,
-  write-block-reads.Learnt,
-  write-chain-below t,
-  write-chain.Post,
-) (write-chain-at t) write-chain.Post
-write-chain-write-chain-requires t c κs = ?
+  write-chain-requires : lts.Need-write-chain-requires calls Pre own.Post
+  write-chain-requires c κs =
+      let x = c .before .before .before .before .before .before .before .before .before .before .before in
+      let p = x .pre .1 in
+      let o : 1 ≤ x .args .owed = omega arith in
+      (omega arith, walks-laid (x .args .s) (x .args .node .now) (x .args .owed) (x .args .b) p (x .args .words .now) o _ _ _ (c .before .before .before .before .before .before .link-of .ensures) (c .before .before .before .before .write-block .ensures .0) (c .before .before .before .before .write-block .ensures .1))
 
--- src/lib.rt:94:1
-write-chain-same-length : (t : ℕ) → write-chain-lts.Need-same-length (
-  link-of-reads.Asked,
-  link-of-reads.Learnt,
-  write-block-reads.Asked,
-  write-block-reads.Learnt,
-  write-chain-below t,
-  write-chain.Post,
-) (write-chain-at t) write-chain.Post
-write-chain-same-length t c = ?
+  same-length : lts.Need-same-length calls Pre own.Post
+  same-length c = c .before .before .write-chain .kept .0 ∙ c .before .before .before .before .before .before .before .write-block .kept .0
 
--- src/lib.rt:94:1
-write-chain-returns-2 : (t : ℕ) → write-chain-lts.Need-returns-2 (
-  link-of-reads.Asked,
-  link-of-reads.Learnt,
-  write-block-reads.Asked,
-  write-block-reads.Learnt,
-  write-chain-below t,
-  write-chain.Post,
-) (write-chain-at t) write-chain.Post
-write-chain-returns-2 t c = ?
+  returns-2 : lts.Need-returns-2 calls Pre own.Post
+  returns-2 c =
+      let x = c .before .before .before .before .before .before .before .before .before .before .before .before .before .before in
+      let p = x .pre .1 in
+      let o : 1 ≤ x .args .owed = omega arith in
+      laid-step (x .args .s) (x .args .node .now) (x .args .owed) (x .args .b) p (x .args .words .now) o _ _ _ (c .before .before .before .before .before .before .before .before .before .link-of .ensures) (c .before .before .before .before .before .before .before .write-block .ensures .0) (c .before .before .before .before .before .before .before .write-block .ensures .1) _ (c .before .before .write-chain .ensures)
 
 pub +write-chain-spec : {M : Type 1} → statement M
-+write-chain-spec = close μ-write-chain λ t. write-chain-lts.spec (
-  link-of-reads.Asked,
-  link-of-reads.Learnt,
-  write-block-reads.Asked,
-  write-block-reads.Learnt,
-  write-chain-below t,
-  write-chain.Post,
-)
-    (write-chain-at t)
-    write-chain.Post
-    (write-chain-returns t)
-    (write-chain-link-of-requires t)
-    (write-chain-write-block-requires t)
-    (write-chain-sub-write-chain t)
-    (write-chain-mul-write-chain t)
-    (write-chain-sub-write-chain-2 t)
-    (write-chain-part-write-chain-start t)
-    (write-chain-part-write-chain-end t)
-    (write-chain-write-chain-requires t)
-    (write-chain-same-length t)
-    (write-chain-returns-2 t)
++write-chain-spec = close μ (λ t. lts.spec (calls t) (Pre t) own.Post (returns t) (link-of-requires t) (write-block-requires t) (sub-write-chain t) (mul-write-chain t) (sub-write-chain-2 t) (part-write-chain-start t) (part-write-chain-end t) (write-chain-requires t) (same-length t) (returns-2 t))

@@ -1,70 +1,65 @@
+-- `letters::read_block` meets its contract. Assumes nothing.
+use mathlib.Core.Path.{ap}
+use Prim.Native.Nat.{ℕ, _+_}
+use lib.ListN.{length}
+use Rattle.letters.proofs.Steps.{piece-long, piece-got}
 use borrow.Author.Needs.{needs}
 use Rattle.letters.proofs.read_block.Statement.{statement}
 use Rattle.letters.proofs.read_block.Tie as tie
-use Rattle.letters.proofs.read_block.Reads as reads
-use Rattle.letters.proofs.read_block.Lts as lts
-use Rattle.layout.proofs.block_at.Reads as block-at-reads
-use Rattle.words.proofs.copy.Reads as copy-reads
 
--- src/lib.rt:42:16
 sub-left : tie.Need-sub-left
 sub-left c = search needs
 
--- src/lib.rt:42:16
 sub-left-2 : tie.Need-sub-left-2
 sub-left-2 c = search needs
 
--- src/lib.rt:44:13
+fewer-requires : tie.Need-fewer-requires
+fewer-requires c κs = search needs
+
 block-at-requires : tie.Need-block-at-requires
 block-at-requires c κs = search needs
 
--- src/lib.rt:44:13
 add-a : tie.Need-add-a
 add-a c = search needs
 
--- src/lib.rt:45:13
 add-e : tie.Need-add-e
-add-e c = ?
+add-e c = search needs
 
--- src/lib.rt:46:17
 sub-copy : tie.Need-sub-copy
 sub-copy c = search needs
 
--- src/lib.rt:46:17
 part-copy-start : tie.Need-part-copy-start
 part-copy-start c = search needs
 
--- src/lib.rt:46:17
 part-copy-end : tie.Need-part-copy-end
-part-copy-end c = ?
+part-copy-end c = search needs
 
--- src/lib.rt:46:33
 mul-copy : tie.Need-mul-copy
 mul-copy c = search needs
 
--- src/lib.rt:46:33
 sub-copy-2 : tie.Need-sub-copy-2
 sub-copy-2 c = search needs
 
--- src/lib.rt:46:33
 part-copy-start-2 : tie.Need-part-copy-start-2
 part-copy-start-2 c = search needs
 
--- src/lib.rt:46:33
 part-copy-end-2 : tie.Need-part-copy-end-2
-part-copy-end-2 c = ?
+part-copy-end-2 c = search needs
 
--- src/lib.rt:46:5
 copy-requires : tie.Need-copy-requires
 copy-requires c κs = search needs
 
--- src/lib.rt:35:1
 same-length : tie.Need-same-length
 same-length c = search needs
 
--- src/lib.rt:35:1
 returns : tie.Need-returns
-returns c = ?
+returns c =
+    let x = c .before .before .before .before .before .before .before .before .before .before in
+    let n = c .before .before .before .before .before .before .fewer .ensures in
+    let a = ap (λ (k : ℕ). k + x .args .at) (c .before .before .before .before .before .block-at .ensures .is) in (
+      piece-long (x .args .s) (x .args .node .now) (x .pre .0) (x .args .b) (x .pre .1 .0 .0) (x .pre .1 .0 .1) (x .args .at) (x .pre .1 .1) (length (x .args .out .now)) _ _ n a,
+      piece-got (x .args .s) (x .args .node .now) (x .pre .0) (x .args .b) (x .pre .1 .0 .0) (x .pre .1 .0 .1) (x .args .at) (x .pre .1 .1) (length (x .args .out .now)) _ _ n a (x .args .out .now) _ (c .before .before .copy .ensures),
+    )
 
 pub read-block-spec : {M : Type 1} → statement M
 read-block-spec =
@@ -72,6 +67,7 @@ read-block-spec =
     (tie.spec
     sub-left
     sub-left-2
+    fewer-requires
     block-at-requires
     add-a
     add-e

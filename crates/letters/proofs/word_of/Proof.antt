@@ -1,54 +1,44 @@
+-- `letters::word_of` meets its contract. Assumes nothing.
+use native.Mathlib.Omega.{arith}
+use native.Mathlib.Nat.{div-le-self}
+use Prim.Native.Nat.{_-_}
+use Rattle.letters.proofs.Steps.{word-walks, owner-in, word-fits, word-is}
 use borrow.Author.Needs.{needs}
 use Rattle.letters.proofs.word_of.Statement.{statement}
 use Rattle.letters.proofs.word_of.Tie as tie
-use Rattle.letters.proofs.word_of.Reads as reads
-use Rattle.letters.proofs.word_of.Lts as lts
-use Rattle.blocks.proofs.last_of.Reads as last-of-reads
-use Rattle.layout.proofs.block_at.Reads as block-at-reads
 
--- src/lib.rt:20:16
 sub-room : tie.Need-sub-room
 sub-room c = search needs
 
--- src/lib.rt:21:45
 div-last-of : tie.Need-div-last-of
 div-last-of c = search needs
 
--- src/lib.rt:21:45
 add-last-of : tie.Need-add-last-of
-add-last-of c = ?
+add-last-of c = let x = c .before .before in omega (arith, div-le-self (x .args .k) (x .args .s .b - 1))
 
--- src/lib.rt:21:9
 last-of-requires : tie.Need-last-of-requires
-last-of-requires c κs = ?
+last-of-requires c κs = let x = c .before .before in (word-walks (x .args .s) (x .args .node .now) (x .args .k) (x .args .b) (x .pre), omega arith)
 
--- src/lib.rt:22:34
 cast-block-at : tie.Need-cast-block-at
 cast-block-at c = search needs
 
--- src/lib.rt:22:9
 block-at-requires : tie.Need-block-at-requires
-block-at-requires c κs = ?
+block-at-requires c κs = let x = c .before .before .before in (x .pre .walks .stretch .range, owner-in (x .args .s) (x .args .node .now) (x .args .k) (x .args .b) (x .pre) _ (c .last-of .ensures))
 
--- src/lib.rt:23:15
 rem-result : tie.Need-rem-result
 rem-result c = search needs
 
--- src/lib.rt:23:10
 add-result : tie.Need-add-result
-add-result c = ?
+add-result c = let x = c .before .before .before .before in omega (arith, word-fits (x .args .s) (x .args .node .now) (x .args .k) (x .args .b) (x .pre) _ (c .block-at .ensures .fits))
 
--- src/lib.rt:23:5
 mul-result : tie.Need-mul-result
-mul-result c = ?
+mul-result c = let x = c .before .before .before .before in omega (arith, word-fits (x .args .s) (x .args .node .now) (x .args .k) (x .args .b) (x .pre) _ (c .block-at .ensures .fits))
 
--- src/lib.rt:23:5
 shared-slice-read-result : tie.Need-shared-slice-read-result
-shared-slice-read-result c = ?
+shared-slice-read-result c = let x = c .before .before .before .before .before in word-fits (x .args .s) (x .args .node .now) (x .args .k) (x .args .b) (x .pre) _ (c .before .block-at .ensures .fits) .0
 
--- src/lib.rt:16:1
 returns : tie.Need-returns
-returns c = ?
+returns c = let x = c .before .before .before .before .before in word-is (x .args .s) (x .args .node .now) (x .args .k) (x .args .b) (x .pre) _ _ (c .before .before .last-of .ensures) (c .before .block-at .ensures .is)
 
 pub word-of-spec : {M : Type 1} → statement M
 word-of-spec =
