@@ -10,14 +10,14 @@ use borrow.Rule.Slice.PartMut.{putMid, postOf, post-is}
 use Rattle.words.specs.Words.{part, splice}
 use Rattle.words.proofs.Parts.{back, length-part, take-least, drop-take, take-join, drop-front}
 use Rattle.settings.specs.declared.Settings.{Settings}
-use Rattle.layout.specs.Places.{blockAt, linkAt, nodeSize}
+use Rattle.layout.specs.Places.{blockAt, linkAt, nodeSize, nodeAt, node}
 use Rattle.layout.specs.Asked.{Stretch}
 use Rattle.layout.proofs.Fits.{block-fits, node-small}
 use Rattle.blocks.specs.Chain.{needs, link, chain, after, text, Within}
 use Rattle.blocks.specs.Asked.{Walks}
 use Rattle.blocks.proofs.Steps.{down, chain-step, within-step, last-in}
-use Rattle.letters.specs.Letter.{onto, word, letter, piece, laid}
-use Rattle.letters.specs.Asked.{Lies, Covers}
+use Rattle.letters.specs.Letter.{onto, word, letter, piece, laid, written, copied}
+use Rattle.letters.specs.Asked.{Lies, Covers, Copies}
 use Rattle.letters.proofs.Rows.{block-chain, needs-enough}
 
 -- ---- one block
@@ -238,3 +238,31 @@ module _ (s : Settings) (node : List ℕ) (owed b : ℕ) (walk : Walks s node ow
         q ∙ ap (laid s mid (owed - 1) next) words-rest
         ∙ ap₂ (λ (m : List ℕ) (x : ℕ). laid s m (owed - 1) x (drop (s .b - 1) ws)) em el
         ∙ sym (ap (λ (i : ℕ). laid s node i b ws) (down owed some))
+
+-- ---- a copy from node i to node j
+module _ (s : Settings) (memory : List ℕ) (size : ℕ) (es : size ≡ nodeSize s) where
+  node-part : (i a : ℕ) → a ≡ nodeAt s i → part memory a (a + size) ≡ node s memory i
+  node-part i a ea = ap₂ (λ (k z : ℕ). part memory k (k + z)) ea es
+
+  pub lies-part : (i a n n′ b : ℕ) → a ≡ nodeAt s i → n′ ≡ n → Lies s (node s memory i) n b → Lies s (part memory a (a + size)) n′ b
+  lies-part i a n n′ b ea en l = rw (node-part i a ea, en) l
+
+  pub copied-is : (n i b j c a f : ℕ) (side p : List ℕ) → a ≡ nodeAt s i → f ≡ nodeAt s j → side ≡ drop 0 (letter s (part memory a (a + size)) (0 + n) b)
+      → p ≡ written s (part memory f (f + size)) c side → putMid f (f + size - f) memory p ≡ copied s memory n i b j c
+  unfolding copied
+  copied-is n i b j c a f side p ea ef er ew =
+      let z : 0 + n ≡ n = omega arith in
+      let l : side ≡ letter s (node s memory i) n b = er ∙ ap₂ (λ (m : List ℕ) (k : ℕ). letter s m k b) (node-part i a ea) z in
+      back f (f + size) memory (omega arith) (ew ∙ ap₂ (λ (m ws : List ℕ). written s m c ws) (node-part j f ef) l)
+      ∙ ap₂ (λ (k z : ℕ). splice memory k (k + z) (written s (node s memory j) c (letter s (node s memory i) n b))) ef es
+
+-- a side row that has room for every letter has room for n words
+module _ (s : Settings) (memory : List ℕ) (n i b j c : ℕ) (side : List ℕ) (pre : Copies s memory n i b j c) (long : length side ≡ 1024) where
+  side-long : length (take (n - 0) side) ≡ n
+  side-long = let m = pre .from .most in length-take-le (n - 0) side (omega arith) ∙ omega arith
+
+  pub copies-side : Copies s memory (length (take (n - 0) side)) i b j c
+  copies-side = rw side-long pre
+
+  pub copied-side : (l : List ℕ) → l ≡ copied s memory (length (take (n - 0) side)) i b j c → l ≡ copied s memory n i b j c
+  copied-side l e = e ∙ ap (λ (k : ℕ). copied s memory k i b j c) side-long

@@ -120,17 +120,35 @@ pub fn write(node: &mut [u32], s: Settings, b: u32, words: &[u32])
     write_chain(node, s, b, owed, words);
 }
 
-// Copies the n words of the letter that block b begins in node i into the chain that block c begins in node j.
+// Copies the letter that block b begins in node i, as many words as `side` has, through `side` into the
+// chain that block c begins in node j.
+fn copy_through(
+    memory: &mut [u32],
+    s: Settings,
+    i: usize,
+    b: u32,
+    j: usize,
+    c: u32,
+    side: &mut [u32],
+)
+    requires { ⌜ Copies s (now memory) (length (now side)) i b j c ⌝ }
+    ensures { λ _. ⌜ now (memory .exit) ≡ copied s (now (memory .entry)) (length (now (side .entry))) i b j c ⌝ }
+{
+    let size = layout::node_size(s);
+    let a = layout::node_at(s, i);
+    let e = a + size;
+    read(&memory[a..e], s, b, 0, side);
+    let f = layout::node_at(s, j);
+    let g = f + size;
+    write(&mut memory[f..g], s, c, side);
+}
+
+// Copies the n words of the letter that block b begins in node i into the chain that block c begins in
+// node j.
 pub fn copy(memory: &mut [u32], s: Settings, n: usize, i: usize, b: u32, j: usize, c: u32)
     requires { ⌜ Copies s (now memory) n i b j c ⌝ }
     ensures { λ _. ⌜ now (memory .exit) ≡ copied s (now (memory .entry)) n i b j c ⌝ }
 {
     let mut side = [0u32; 1024];
-    let size = layout::node_size(s);
-    let a = layout::node_at(s, i);
-    let e = a + size;
-    read(&memory[a..e], s, b, 0, &mut side[0..n]);
-    let f = layout::node_at(s, j);
-    let g = f + size;
-    write(&mut memory[f..g], s, c, &side[0..n]);
+    copy_through(memory, s, i, b, j, c, &mut side[0..n]);
 }
