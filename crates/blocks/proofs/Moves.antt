@@ -3,7 +3,7 @@
 --     take-free, take-chain, take-list, take-chained, take-other, take-text     what n blocks taken leave
 --     give-free, give-list, give-other, give-text     what a chain given back leaves
 --     give-taken     blocks taken and given back at once: nothing changed
-use mathlib.Core.Path.{_≡_, refl, sym, ap, _∙_, subst}
+use mathlib.Core.Path.{_≡_, refl, sym, ap, ap₂, _∙_, subst}
 use mathlib.Core.Bool.{Bool, true, false, cond}
 use mathlib.Core.List.{List, [], _∷_, _++_}
 use Prim.Native.Nat.{ℕ, zero, suc, _+_, _-_, _≤_, _<_}
@@ -23,7 +23,7 @@ use Rattle.layout.specs.Places.{blocksAt}
 use Rattle.blocks.specs.Chain.{link, chain, after, list, free, text, Within, Once, Chained}
 use Rattle.blocks.specs.Asked.{FreeList}
 use Rattle.blocks.specs.Moves.{enough, taken, takenFrom, givenBack}
-use Rattle.blocks.proofs.Steps.{down, last-in}
+use Rattle.blocks.proofs.Steps.{down, head-fits}
 use Rattle.blocks.proofs.Chains.{linkIn, Leads, textIn, firstIn, setFirst, setLink, leads-split, leads-first}
 use Rattle.blocks.proofs.Rows.{rows, within-in, in-within, once-most, link-rows, rows-link, first-rows, rows-first, text-rows, chain-is, after-is, free-is, chain-leads, free-leads, block-long, head-long}
 use Rattle.blocks.proofs.Laws.{takenRows, givenRows, taken-chain, taken-free, taken-text, taken-leads, taken-count, given-free, given-text, given-leads}
@@ -212,6 +212,32 @@ module _ (s : Settings) (node : List ℕ) (st : Stretch s node) where
         ∙ ap (λ (R : ℕ → List ℕ). textIn (s .b) R l) taken-rows
         ∙ taken-text (s .b) (rows s node) y l
         ∙ sym (text-rows s (st .range) node l i)
+
+    -- BLOCKS TAKEN AND GIVEN BACK AT ONCE: nothing changed
+    taken-is : taken s node n ≡ set (set node 0 (link s node y)) (linkAt s y) 0
+    taken-is = ap (taken s node) (sym size-xs) ∙ taken-words xs y ys cut
+
+    last-is : after s (taken s node n) (n - 1) (getD node 0 0) ≡ y
+    last-is =
+        let k = leads-split (s .b) (rows s (taken s node n)) (getD node 0 0) xs y [] 0 chain-rows in
+        ap (λ (j : ℕ). after s (taken s node n) j (getD node 0 0)) (sym (length-take-le (n - 1) (free s node) (omega arith)))
+        ∙ after-is s (st .range) (taken s node n) (getD node 0 0) xs y (λ x o. in-c x (omega (arith, occurs-append x xs (y ∷ [])))) (k .0)
+
+    pub give-taken : givenBack s (taken s node n) n (getD node 0 0) ≡ node
+    unfolding givenBack
+    give-taken =
+        let a : ℕ = linkAt s y in
+        let w = st .range .b .low in
+        let ne : 0 ≡ a → ⊥ = λ e. omega arith in
+        let h : 0 < length node = omega (arith, head-fits s, st .long) in
+        let v : ℕ = link s node y in
+        let f : getD (taken s node n) 0 0 ≡ v =
+        ap (λ (l : List ℕ). getD l 0 0) taken-is ∙ getD-set-other (set node 0 v) a 0 0 0 ne ∙ getD-set-same node 0 v 0 h in
+        ap₂ (λ (z x : ℕ). set (set (taken s node n) (linkAt s z) x) 0 (getD node 0 0)) last-is f
+        ∙ ap (λ (l : List ℕ). set (set l a v) 0 (getD node 0 0)) taken-is
+        ∙ ap (λ (l : List ℕ). set l 0 (getD node 0 0)) (set-set (set node 0 v) a 0 v ∙ set-comm node 0 a v v ne ∙ ap (λ (l : List ℕ). set l 0 v) (set-getD node a 0))
+        ∙ set-set node 0 v (getD node 0 0)
+        ∙ set-getD node 0 0
 
   -- ---- the chain of n blocks from b on is given back
   module _ (fl : FreeList s node) (n b : ℕ) (some : 1 ≤ n) (ch : Chained s node n b) (apart : Once (chain s node n b ++ free s node)) where
