@@ -5,9 +5,13 @@ use lib.ListN.{length, getD, take, drop}
 use lib.Seq.{sets}
 use Rattle.words.specs.Words.{part}
 use Rattle.settings.specs.declared.Settings.{Settings}
-use Rattle.layout.specs.Places.{blockAt, node, withNode}
+use Rattle.layout.specs.Places.{blockAt, linkAt, node, withNode}
 use Rattle.layout.specs.Numbers.{lengthWord}
 use Rattle.blocks.specs.Chain.{link, chain, after, text, needs}
+
+-- the words p at the front of l; the rest of l stays
+unfoldable pub onto : List ℕ → List ℕ → List ℕ
+onto p l = p ++ drop (length p) l
 
 module _ (s : Settings) (stretch : List ℕ) where
   -- word k of the letter that block b begins
@@ -21,6 +25,10 @@ module _ (s : Settings) (stretch : List ℕ) where
   -- 'a letter is read through its chain as if its words stood together': the n words of the letter that block b begins
   unfoldable pub letter : ℕ → ℕ → List ℕ
   letter n b = take n (text s stretch (chain s stretch (needs s n) b))
+
+  -- of the words of block b those from word `at` on, n at most
+  unfoldable pub piece : ℕ → ℕ → ℕ → List ℕ
+  piece b at n = take n (drop at (part stretch (blockAt s b) (linkAt s b)))
 
 -- 'Writing or copying a letter writes its length words only': the words ws laid into the blocks from b on, B-1 to a block, n blocks at most
 unfoldable pub laid : Settings → List ℕ → ℕ → ℕ → List ℕ → List ℕ

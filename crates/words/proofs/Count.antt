@@ -3,7 +3,7 @@ use mathlib.Core.Path.{_≡_, refl, sym, ap, _∙_}
 use mathlib.Core.List.{List, [], _∷_, _++_}
 use Prim.Native.Nat.{ℕ, zero, suc, _+_, _≤_, _<_}
 use native.Mathlib.Omega.{arith}
-use lib.ListN.{take, drop, take-append-drop}
+use lib.ListN.{length, take, drop, take-append-drop}
 use borrow.Author.Tests.{eq-eqb, ne-eqb}
 use Rattle.words.specs.Count.{hit, occurs, sum, downFrom}
 use Rattle.words.proofs.Lists.{put, same?}
@@ -83,3 +83,49 @@ down-range (suc n) b h =
     same? b (suc n)
     (λ q e. omega arith)
     (λ q e. let k = down-range n b (omega (arith, hit-other b (suc n) q)) in omega arith)
+
+-- ---- a list has as many numbers as are counted in it
+sum-plus : (n : ℕ) (f g : ℕ → ℕ) → sum n (λ b. f b + g b) ≡ sum n f + sum n g
+unfolding sum
+sum-plus zero f g = refl
+sum-plus (suc n) f g = omega (arith, sum-plus n f g)
+
+sum-mono : (n : ℕ) (f g : ℕ → ℕ) → ((k : ℕ) → f k ≤ g k) → sum n f ≤ sum n g
+unfolding sum
+sum-mono zero f g h = omega arith
+sum-mono (suc n) f g h = omega (arith, sum-mono n f g h, h n)
+
+sum-hit-out : (n x : ℕ) → n ≤ x → sum n (λ b. hit b x) ≡ 0
+unfolding sum
+sum-hit-out zero x l = refl
+sum-hit-out (suc n) x l = omega (arith, sum-hit-out n x (omega arith), hit-other n x (λ e. omega arith))
+
+sum-hit : (n x : ℕ) → x < n → sum n (λ b. hit b x) ≡ 1
+unfolding sum
+sum-hit zero x l = absurd (omega arith)
+sum-hit (suc n) x l =
+    same? n x
+    (λ q e. omega (arith, sum-hit-out n x (omega arith), hit-self x, ap (λ (k : ℕ). hit k x) q))
+    (λ q e. omega (arith, sum-hit n x (omega arith), hit-other n x q))
+
+sum-none : (n : ℕ) → sum n (λ b. zero) ≡ 0
+unfolding sum
+sum-none zero = refl
+sum-none (suc n) = omega (arith, sum-none n)
+
+pub sum-occurs : (n : ℕ) (l : List ℕ) → ((b : ℕ) → 1 ≤ occurs b l → b < n) → sum n (λ b. occurs b l) ≡ length l
+sum-occurs n [] h = sum-none n
+sum-occurs n (x ∷ l) h =
+    sum-plus n (λ b. hit b x) (λ b. occurs b l)
+    ∙ omega (arith, sum-hit n x (h x (omega (arith, hit-self x))), sum-occurs n l (λ b o. h b (omega arith)))
+
+length-down : (n : ℕ) → length (downFrom n) ≡ n
+length-down zero = refl
+length-down (suc n) = omega (arith, length-down n)
+
+-- no more than 1 to n, each once: no more than n
+pub count-most : (n : ℕ) (l : List ℕ) → ((b : ℕ) → occurs b l ≤ occurs b (downFrom n)) → length l ≤ n
+count-most n l h =
+    let a = sum-occurs (suc n) l (λ b o. let r = down-range n b (omega (arith, h b)) in omega arith) in
+    let d = sum-occurs (suc n) (downFrom n) (λ b o. let r = down-range n b o in omega arith) in
+    omega (arith, sum-mono (suc n) (λ b. occurs b l) (λ b. occurs b (downFrom n)) h, length-down n)

@@ -3,3 +3,4 @@ pub mod Numbers
 pub mod Parts
 pub mod Rows
 pub mod Count
+pub mod Over

@@ -1,14 +1,16 @@
 -- A part that was lent and came back: lengths, reads, stores, and the parts before and behind it. Assumes nothing.
 use mathlib.Core.Path.{_≡_, refl, sym, ap, _∙_}
+use mathlib.Core.Logic.{⊎-elim}
 use mathlib.Core.List.{List, [], _∷_, _++_, append-assoc, append-nil}
-use Prim.Native.Nat.{ℕ, zero, suc, _+_, _-_, _≤_, _<_}
+use Prim.Native.Nat.{ℕ, zero, suc, _+_, _-_, _≤_, _<_, min}
 use native.Mathlib.Nat.{le-trans}
 use native.Mathlib.Numerals.{add-one}
 use native.Mathlib.Omega.{arith}
-use lib.ListN.{length, getD, take, drop, set, length-append, length-drop, take-append-drop, drop-of-length-le}
-use lib.Seq.{drop-append-add, take-all, getD-take, getD-drop, length-take-le, take-at, drop-at, drop-drop, take-append-le, drop-append-le}
+use lib.ListN.{length, getD, take, drop, set, length-append, length-take, length-drop, take-append-drop, drop-of-length-le}
+use lib.Seq.{drop-append-add, take-all, take-take, take-nil, getD-take, getD-drop, length-take-le, take-at, drop-at, drop-drop, take-append-le, drop-append-le}
 use borrow.Rule.Slice.PartMut.{putMid, post-is, mid-len, set-mid-at, put-same}
 use Rattle.words.specs.Words.{part, splice}
+use Rattle.words.proofs.Lists.{le-or-lt}
 
 -- what comes back from a call that was lent the part, as the definitions say it
 pub back : (a e : ℕ) (l : List ℕ) {p r : List ℕ} → a ≤ e → p ≡ r → putMid a (e - a) l p ≡ splice l a e r
@@ -93,3 +95,30 @@ grown m p x a e h g =
     let d : drop e (p ++ drop a m) ≡ drop e m =
     ap (λ (k : ℕ). drop k (p ++ drop a m)) q ∙ drop-append-add p (drop a m) (e - a) ∙ drop-drop (e - a) a m ∙ ap (λ (k : ℕ). drop k m) w in
     rw (take-at p (drop a m) a h, d, append-assoc p x (drop e m))
+
+-- ---- the front and the rest of a front
+pub take-least : (m n : ℕ) (l : List ℕ) → take m (take n l) ≡ take (min m n) l
+take-least m n l =
+    ⊎-elim
+    (λ h. let e : min m n ≡ m = omega arith in take-take m n l h ∙ ap (λ (k : ℕ). take k l) (sym e))
+    (λ h. let e : min m n ≡ n = omega arith in take-all m (take n l) (rw length-take (omega arith)) ∙ ap (λ (k : ℕ). take k l) (sym e))
+    (le-or-lt m n)
+
+pub drop-take : (i n : ℕ) (l : List ℕ) → drop i (take n l) ≡ take (n - i) (drop i l)
+drop-take zero n l = let e : n ≡ n - 0 = omega arith in ap (λ (k : ℕ). take k l) e
+drop-take (suc i) zero l = let e : 0 ≡ 0 - suc i = omega arith in ap (λ (k : ℕ). take k (drop (suc i) l)) e
+drop-take (suc i) (suc n) [] = sym (take-nil (suc n - suc i))
+drop-take (suc i) (suc n) (x ∷ l) = let e : n - i ≡ suc n - suc i = omega arith in drop-take i n l ∙ ap (λ (k : ℕ). take k (drop i l)) e
+
+pub take-join : (n : ℕ) (u v : List ℕ) → take n (u ++ v) ≡ take n u ++ take (n - length (take n u)) v
+take-join zero u v = let e : 0 ≡ 0 - 0 = omega arith in ap (λ (k : ℕ). take k v) e
+take-join (suc n) [] v = let e : suc n ≡ suc n - 0 = omega arith in ap (λ (k : ℕ). take k v) e
+take-join (suc n) (x ∷ u) v =
+    let e : n - length (take n u) ≡ suc n - suc (length (take n u)) = omega arith in
+    ap (λ (l : List ℕ). x ∷ l) (take-join n u v ∙ ap (λ (k : ℕ). take n u ++ take k v) e)
+
+-- what is left behind the first n, however many there are
+pub drop-front : (n : ℕ) (l : List ℕ) → drop (length (take n l)) l ≡ drop n l
+drop-front zero l = refl
+drop-front (suc n) [] = refl
+drop-front (suc n) (x ∷ l) = drop-front n l

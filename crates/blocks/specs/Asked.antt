@@ -1,0 +1,27 @@
+-- What a sound memory gives, and the functions on chains and on the free list ask for.
+use mathlib.Core.Path.{_≡_}
+use mathlib.Core.List.{List}
+use Prim.Native.Nat.{ℕ, _≤_}
+use lib.ListN.{length, getD}
+use Rattle.settings.specs.declared.Settings.{Settings}
+use Rattle.layout.specs.Places.{firstFreeAt}
+use Rattle.layout.specs.Asked.{Stretch}
+use Rattle.blocks.specs.Chain.{chain, after, free, Within, Once}
+
+-- the n blocks from b on are blocks of the stretch
+pub record Walks (s : Settings) (node : List ℕ) (n b : ℕ) : Type 0 where
+  pub stretch : Stretch s node
+  pub within : Within (s .m) (chain s node n b)
+
+-- the free list: its blocks are blocks, no two the same, and the last link is 0
+pub record FreeList (s : Settings) (node : List ℕ) : Type 0 where
+  pub within : Within (s .m) (free s node)
+  pub once : Once (free s node)
+  pub ends : after s node (length (free s node)) (getD node firstFreeAt 0) ≡ 0
+
+-- n blocks, one at least and no more than a node has, may be asked of the free list
+pub record Takes (s : Settings) (node : List ℕ) (n : ℕ) : Type 0 where
+  pub stretch : Stretch s node
+  pub free : FreeList s node
+  pub some : 1 ≤ n
+  pub most : n ≤ s .m

@@ -1,0 +1,268 @@
+-- What the code of reading and writing does, a block at a time. Assumes nothing.
+use mathlib.Core.Path.{_≡_, refl, sym, ap, ap₂, _∙_, subst}
+use mathlib.Core.List.{List, [], _∷_, _++_, append-nil, append-assoc}
+use Prim.Native.Nat.{ℕ, zero, suc, _+_, _-_, _*_, _/_, _%_, _≤_, _<_, min}
+use native.Mathlib.Nat.{suc-mul, zero-mul, add-div-right, mod-lt, div-add-mod}
+use native.Mathlib.Omega.{arith}
+use lib.ListN.{length, getD, take, drop, length-append, length-take, length-drop, drop-of-length-le}
+use lib.Seq.{sets, sets-eq, length-sets, take-all, take-at, drop-at, drop-drop, drop-append-le, drop-append-add, length-take-le}
+use borrow.Rule.Slice.PartMut.{putMid, postOf, post-is}
+use Rattle.words.specs.Words.{part, splice}
+use Rattle.words.proofs.Parts.{back, length-part, take-least, drop-take, take-join, drop-front}
+use Rattle.settings.specs.declared.Settings.{Settings}
+use Rattle.layout.specs.Places.{blockAt, linkAt, nodeSize, nodeAt, node}
+use Rattle.layout.specs.Asked.{Stretch}
+use Rattle.layout.proofs.Fits.{block-fits, node-small}
+use Rattle.blocks.specs.Chain.{needs, link, chain, after, text, Within}
+use Rattle.blocks.specs.Asked.{Walks}
+use Rattle.blocks.proofs.Steps.{down, chain-step, within-step, last-in}
+use Rattle.letters.specs.Letter.{onto, word, letter, piece, laid, written, copied}
+use Rattle.letters.specs.Asked.{Lies, Covers, Copies}
+use Rattle.letters.proofs.Rows.{block-chain, needs-enough}
+
+-- ---- one block
+module _ (s : Settings) (node : List ℕ) (st : Stretch s node) (b : ℕ) (low : 1 ≤ b) (high : b ≤ s .m) where
+  -- the words of block b
+  abbrev own : List ℕ
+  own = part node (blockAt s b) (linkAt s b)
+
+  fits : blockAt s b + s .b ≤ length node
+  fits = rw (st .long) (block-fits s b low high)
+
+  own-long : length own ≡ s .b - 1
+  own-long =
+      let f = fits in
+      let w = st .range .b .low in
+      length-part node (blockAt s b) (linkAt s b) (omega arith) (omega arith) ∙ omega arith
+
+  -- a piece of it
+  module _ (at : ℕ) (inside : at < s .b - 1) (len n a : ℕ) (en : n ≡ min len (s .b - 1 - at)) (ea : a ≡ blockAt s b + at) where
+    piece-is : piece s node b at len ≡ part node a (a + n)
+    unfolding piece
+    piece-is =
+        let d : linkAt s b - blockAt s b ≡ s .b - 1 = omega arith in
+        let e : a + n - a ≡ n = omega arith in
+        ap (λ (k : ℕ). take len (drop at (take k (drop (blockAt s b) node)))) d
+        ∙ ap (take len) (drop-take at (s .b - 1) (drop (blockAt s b) node))
+        ∙ take-least len (s .b - 1 - at) (drop at (drop (blockAt s b) node))
+        ∙ ap₂ (λ (k : ℕ) (l : List ℕ). take k l) (sym (e ∙ en)) (drop-drop at (blockAt s b) node ∙ ap (λ (k : ℕ). drop k node) (sym ea))
+
+    pub piece-long : n ≡ length (piece s node b at len)
+    piece-long =
+        let f = fits in
+        let w = st .range .b .low in
+        rw piece-is (sym (length-part node a (a + n) (omega arith) (omega arith) ∙ omega arith))
+
+    pub piece-got : (out p : List ℕ) → p ≡ part node a (a + n) → p ++ postOf 0 (n - 0) out ≡ onto (piece s node b at len) out
+    unfolding onto
+    piece-got out p q = rw (← piece-long, piece-is, q, post-is 0 n out (omega arith)) refl
+
+  -- the words of a letter's front stored in it
+  module _ (ws : List ℕ) (n a : ℕ) (en : n ≡ min (length ws) (s .b - 1)) (ea : a ≡ blockAt s b) where
+    front-long : n ≡ length (take (s .b - 1) ws)
+    front-long = rw length-take (omega arith)
+
+    pub block-stored : (p : List ℕ) → p ≡ part ws 0 n
+        → (n ≡ length (take (s .b - 1) ws)) × (putMid a (a + n - a) node p ≡ sets node (blockAt s b) (take (s .b - 1) ws))
+    block-stored p q =
+        let f = fits in
+        let w = st .range .b .low in
+        let z : n - 0 ≡ n = omega arith in
+        let t : take (n - 0) ws ≡ take (s .b - 1) ws =
+        ap (λ (k : ℕ). take k ws) (z ∙ en) ∙ sym (take-least (length ws) (s .b - 1) ws) ∙ take-all (length ws) (take (s .b - 1) ws) (rw length-take (omega arith)) in
+        let fl = front-long in (
+          fl,
+          back a (a + n) node (omega arith) (q ∙ t)
+              ∙ ap (λ (k : ℕ). splice node k (k + n) (take (s .b - 1) ws)) ea
+              ∙ ap (λ (k : ℕ). splice node (blockAt s b) (blockAt s b + k) (take (s .b - 1) ws)) fl
+              ∙ sym (sets-eq (take (s .b - 1) ws) node (blockAt s b) (omega arith) ∙ append-assoc (take (blockAt s b) node) (take (s .b - 1) ws) (drop (blockAt s b + length (take (s .b - 1) ws)) node)),
+        )
+
+-- ---- the words of a chain, the first block's and the others'
+module _ (s : Settings) (node : List ℕ) (owed b : ℕ) (ws : Walks s node owed b) (some : 1 ≤ owed) where
+  pub head-in : (1 ≤ b) × (b ≤ s .m)
+  head-in = within-step s node (s .m) owed b some (ws .within) .0
+
+  pub walks-rest : Walks s node (owed - 1) (link s node b)
+  walks-rest = record { stretch = ws .stretch; within = within-step s node (s .m) owed b some (ws .within) .1 }
+
+  abbrev rest : List ℕ
+  rest = text s node (chain s node (owed - 1) (link s node b))
+
+  text-step : text s node (chain s node owed b) ≡ part node (blockAt s b) (linkAt s b) ++ text s node (chain s node (owed - 1) (link s node b))
+  unfolding text
+  text-step = rw (chain-step s node owed b some)
+
+  own-size : length (part node (blockAt s b) (linkAt s b)) ≡ s .b - 1
+  own-size = own-long s node (ws .stretch) b (head-in .0) (head-in .1)
+
+  -- one block fewer owed
+  pub room-rest : (n : ℕ) → n ≤ owed * (s .b - 1) → n - (s .b - 1) ≤ (owed - 1) * (s .b - 1)
+  room-rest n h = omega (arith, suc-mul (owed - 1) (s .b - 1), ap (λ (k : ℕ). k * (s .b - 1)) (down owed some))
+
+  -- a word behind the first block
+  pub skip-text : (at : ℕ) → s .b - 1 ≤ at → drop at (text s node (chain s node owed b)) ≡ drop (at - (s .b - 1)) (text s node (chain s node (owed - 1) (link s node b)))
+  skip-text at h =
+      let z = own-size in
+      let e : at ≡ length (part node (blockAt s b) (linkAt s b)) + (at - (s .b - 1)) = omega arith in
+      ap (drop at) text-step
+      ∙ ap (λ (k : ℕ). drop k (part node (blockAt s b) (linkAt s b) ++ rest)) e
+      ∙ drop-append-add (part node (blockAt s b) (linkAt s b)) rest (at - (s .b - 1))
+
+  -- a word in the first block: the piece of that block, and then the others' words from the first on
+  pub piece-text : (at len : ℕ) → at < s .b - 1
+      → take len (drop at (text s node (chain s node owed b))) ≡ piece s node b at len ++ take (len - length (piece s node b at len)) (text s node (chain s node (owed - 1) (link s node b)))
+  unfolding piece
+  piece-text at len h =
+      let z = own-size in
+      ap (λ (l : List ℕ). take len (drop at l)) text-step
+      ∙ ap (take len) (drop-append-le at (part node (blockAt s b) (linkAt s b)) rest (omega arith))
+      ∙ take-join len (drop at (part node (blockAt s b) (linkAt s b))) rest
+
+  pub piece-most : (at len : ℕ) → length (piece s node b at len) ≤ len
+  unfolding piece
+  piece-most at len = rw length-take (omega arith)
+
+  -- and what the two reads leave in out
+  pub read-both : (at k next : ℕ) (out mid r : List ℕ) → next ≡ link s node b → at < s .b - 1 → k ≡ length (piece s node b at (length out)) → mid ≡ onto (piece s node b at (length out)) out
+      → r ≡ take (length (part mid k (length out))) (drop 0 (text s node (chain s node (owed - 1) next)))
+      → putMid k (length out - k) mid r ≡ take (length out) (drop at (text s node (chain s node owed b)))
+  unfolding onto
+  read-both at k next out mid r el h ek em er′ =
+      let er : r ≡ take (length (part mid k (length out))) rest = er′ ∙ ap (λ (x : ℕ). take (length (part mid k (length out))) (text s node (chain s node (owed - 1) x))) el in
+      let p : List ℕ = piece s node b at (length out) in
+      let m : length p ≤ length out = piece-most at (length out) in
+      let lm : length mid ≡ length out = ap length em ∙ length-append p (drop (length p) out) ∙ rw length-drop (omega arith) in
+      let lp : length (part mid k (length out)) ≡ length out - k = length-part mid k (length out) (omega arith) (omega arith) in
+      let tk : take k mid ≡ p = ap (take k) em ∙ take-at p (drop (length p) out) k (sym ek) in
+      let dn : drop (length out) mid ≡ [] = drop-of-length-le mid {i = length out} (omega arith) in
+      back k (length out) mid (omega arith) er
+      ∙ ap₂ (λ (u v : List ℕ). u ++ (take (length (part mid k (length out))) rest ++ v)) tk dn
+      ∙ ap (λ (u : List ℕ). p ++ u) (append-nil (take (length (part mid k (length out))) rest))
+      ∙ ap (λ (i : ℕ). p ++ take i rest) (lp ∙ ap (λ (i : ℕ). length out - i) ek)
+      ∙ sym (piece-text at (length out) h)
+
+  -- the words behind the first block are read as the words of the others
+  pub read-skip : (at next len : ℕ) (r : List ℕ) → next ≡ link s node b → s .b - 1 ≤ at
+      → r ≡ take len (drop (at - (s .b - 1)) (text s node (chain s node (owed - 1) next))) → r ≡ take len (drop at (text s node (chain s node owed b)))
+  read-skip at next len r el h q =
+      q ∙ ap (λ (x : ℕ). take len (drop (at - (s .b - 1)) (text s node (chain s node (owed - 1) x)))) el ∙ ap (take len) (sym (skip-text at h))
+
+  -- what the next read asks
+  module _ (at len next : ℕ) (room : at + len ≤ owed * (s .b - 1)) (el : next ≡ link s node b) where
+    pub covers-skip : s .b - 1 ≤ at → Covers s node (owed - 1) next (at - (s .b - 1) + len)
+    covers-skip h = rw el (record { walks = walks-rest; room = omega (arith, room-rest (at + len) room) })
+
+    pub covers-rest : (k : ℕ) (mid : List ℕ) → at < s .b - 1 → k ≡ length (piece s node b at len) → length mid ≡ len → Covers s node (owed - 1) next (0 + length (part mid k len))
+    covers-rest k mid h ek em =
+        let i = head-in in
+        let m : length (piece s node b at len) ≤ len = piece-most at len in
+        let z : min len (s .b - 1 - at) ≡ length (piece s node b at len) =
+        piece-long s node (ws .stretch) b (i .0) (i .1) at h len (min len (s .b - 1 - at)) (blockAt s b + at) refl refl in
+        rw (el, length-part mid k len (omega arith) (omega arith)) (record { walks = walks-rest; room = omega (arith, room-rest (at + len) room) })
+
+-- an out that has words needs blocks
+pub covers-some : (s : Settings) (node : List ℕ) (owed b n : ℕ) → Covers s node owed b n → 1 ≤ n → 1 ≤ owed
+covers-some s node zero b n c h = let r = c .room in absurd (omega (arith, zero-mul (s .b - 1)))
+covers-some s node (suc owed) b n c h = omega arith
+
+pub read-none : (out l : List ℕ) → length out ≡ 0 → out ≡ take (length out) l
+read-none [] l h = refl
+read-none (x ∷ out) l h = absurd (omega arith)
+
+-- ---- one word
+pub needs-suc : (s : Settings) → 2 ≤ s .b → (k : ℕ) → needs s (k + 1) ≡ k / (s .b - 1) + 1
+unfolding needs
+needs-suc s w k =
+    let e : k + 1 + (s .b - 2) ≡ k + (s .b - 1) = omega arith in
+    ap (λ (n : ℕ). n / (s .b - 1)) e ∙ add-div-right k {k = s .b - 1} (omega arith)
+
+module _ (s : Settings) (node : List ℕ) (k b : ℕ) (l : Lies s node (k + 1) b) where
+  pub word-walks : Walks s node (k / (s .b - 1) + 1) b
+  word-walks = let w = l .walks .stretch .range .b .low in rw (← needs-suc s (omega arith) k) (l .walks)
+
+  pub owner-in : (owner : ℕ) → owner ≡ after s node (k / (s .b - 1) + 1 - 1) b → (1 ≤ owner) × (owner ≤ s .m)
+  owner-in owner e = rw e (last-in s node (s .m) (k / (s .b - 1) + 1) b (omega arith) (word-walks .within))
+
+  pub word-fits : (at : ℕ) → at + s .b ≤ nodeSize s → (at + k % (s .b - 1) < length node) × (at + k % (s .b - 1) ≤ 85274)
+  word-fits at h =
+      let st = l .walks .stretch in
+      let w = st .range .b .low in
+      let n = node-small s (st .range) in
+      let z = st .long in
+      omega (arith, mod-lt k {m = s .b - 1} (omega arith))
+
+  pub word-is : (owner at : ℕ) → owner ≡ after s node (k / (s .b - 1) + 1 - 1) b → at ≡ blockAt s owner → getD node (at + k % (s .b - 1)) 0 ≡ word s node b k
+  unfolding word
+  word-is owner at e q =
+      let n : k / (s .b - 1) + 1 - 1 ≡ k / (s .b - 1) = omega arith in
+      ap (λ (i : ℕ). getD node (i + k % (s .b - 1)) 0) (q ∙ ap (blockAt s) (e ∙ ap (λ (i : ℕ). after s node i b) n))
+
+-- ---- the whole letter
+pub covers-lies : (s : Settings) (node : List ℕ) (n b owed : ℕ) → Lies s node n b → owed ≡ needs s n → Covers s node owed b n
+covers-lies s node n b owed l e = rw e (record { walks = l .walks; room = needs-enough s (l .walks .stretch .range) n })
+
+pub letter-part : (s : Settings) (node : List ℕ) (at len b owed : ℕ) (r : List ℕ) → owed ≡ needs s (at + len) → r ≡ take len (drop at (text s node (chain s node owed b))) → r ≡ drop at (letter s node (at + len) b)
+unfolding letter
+letter-part s node at len b owed r e q =
+    let z : at + len - at ≡ len = omega arith in
+    q ∙ ap (λ (o : ℕ). take len (drop at (text s node (chain s node o b)))) e
+    ∙ sym (drop-take at (at + len) (text s node (chain s node (needs s (at + len)) b)) ∙ ap (λ (i : ℕ). take i (drop at (text s node (chain s node (needs s (at + len)) b)))) z)
+
+-- ---- one step of writing
+module _ (s : Settings) (node : List ℕ) (owed b : ℕ) (walk : Walks s node owed b) (ws : List ℕ) where
+  pub laid-none : owed ≡ 0 → laid s node owed b ws ≡ node
+  unfolding laid
+  laid-none e = ap (λ (k : ℕ). laid s node k b ws) e
+
+  module _ (some : 1 ≤ owed) (next k : ℕ) (mid : List ℕ) (el : next ≡ link s node b) (ek : k ≡ length (take (s .b - 1) ws)) (em : mid ≡ sets node (blockAt s b) (take (s .b - 1) ws)) where
+    pub walks-laid : Walks s mid (owed - 1) next
+    walks-laid =
+        let i = head-in s node owed b walk some in
+        let w = walks-rest s node owed b walk some in
+        rw (em, el)
+        (record {
+          stretch = record { range = walk .stretch .range; long = length-sets node (blockAt s b) (take (s .b - 1) ws) ∙ walk .stretch .long };
+          within = rw (block-chain s (walk .stretch .range) node b ws (owed - 1) (link s node b) (i .0) (w .within)) (w .within);
+        })
+
+    -- what is left of the words
+    pub words-rest : part ws k (length ws) ≡ drop (s .b - 1) ws
+    words-rest =
+        take-all (length ws - k) (drop k ws) (rw length-drop (omega arith))
+        ∙ ap (λ (i : ℕ). drop i ws) ek ∙ drop-front (s .b - 1) ws
+
+    pub laid-step : (l : List ℕ) → l ≡ laid s mid (owed - 1) next (part ws k (length ws)) → l ≡ laid s node owed b ws
+    unfolding laid
+    laid-step l q =
+        q ∙ ap (laid s mid (owed - 1) next) words-rest
+        ∙ ap₂ (λ (m : List ℕ) (x : ℕ). laid s m (owed - 1) x (drop (s .b - 1) ws)) em el
+        ∙ sym (ap (λ (i : ℕ). laid s node i b ws) (down owed some))
+
+-- ---- a copy from node i to node j
+module _ (s : Settings) (memory : List ℕ) (size : ℕ) (es : size ≡ nodeSize s) where
+  node-part : (i a : ℕ) → a ≡ nodeAt s i → part memory a (a + size) ≡ node s memory i
+  node-part i a ea = ap₂ (λ (k z : ℕ). part memory k (k + z)) ea es
+
+  pub lies-part : (i a n n′ b : ℕ) → a ≡ nodeAt s i → n′ ≡ n → Lies s (node s memory i) n b → Lies s (part memory a (a + size)) n′ b
+  lies-part i a n n′ b ea en l = rw (node-part i a ea, en) l
+
+  pub copied-is : (n i b j c a f : ℕ) (side p : List ℕ) → a ≡ nodeAt s i → f ≡ nodeAt s j → side ≡ drop 0 (letter s (part memory a (a + size)) (0 + n) b)
+      → p ≡ written s (part memory f (f + size)) c side → putMid f (f + size - f) memory p ≡ copied s memory n i b j c
+  unfolding copied
+  copied-is n i b j c a f side p ea ef er ew =
+      let z : 0 + n ≡ n = omega arith in
+      let l : side ≡ letter s (node s memory i) n b = er ∙ ap₂ (λ (m : List ℕ) (k : ℕ). letter s m k b) (node-part i a ea) z in
+      back f (f + size) memory (omega arith) (ew ∙ ap₂ (λ (m ws : List ℕ). written s m c ws) (node-part j f ef) l)
+      ∙ ap₂ (λ (k z : ℕ). splice memory k (k + z) (written s (node s memory j) c (letter s (node s memory i) n b))) ef es
+
+-- a side row that has room for every letter has room for n words
+module _ (s : Settings) (memory : List ℕ) (n i b j c : ℕ) (side : List ℕ) (pre : Copies s memory n i b j c) (long : length side ≡ 1024) where
+  side-long : length (take (n - 0) side) ≡ n
+  side-long = let m = pre .from .most in length-take-le (n - 0) side (omega arith) ∙ omega arith
+
+  pub copies-side : Copies s memory (length (take (n - 0) side)) i b j c
+  copies-side = rw side-long pre
+
+  pub copied-side : (l : List ℕ) → l ≡ copied s memory (length (take (n - 0) side)) i b j c → l ≡ copied s memory n i b j c
+  copied-side l e = e ∙ ap (λ (k : ℕ). copied s memory k i b j c) side-long

@@ -1,0 +1,27 @@
+-- What a sound memory gives, and the functions on letters ask for.
+use mathlib.Core.List.{List}
+use Prim.Native.Nat.{ℕ, _+_, _-_, _*_, _≤_, _<_}
+use Rattle.settings.specs.declared.Settings.{Settings}
+use Rattle.layout.specs.Places.{nodes, node}
+use Rattle.layout.specs.Numbers.{greatestLength}
+use Rattle.layout.specs.Asked.{Stretch, Sized}
+use Rattle.blocks.specs.Chain.{needs, chain, Within}
+use Rattle.blocks.specs.Asked.{Walks}
+
+-- n words, no more than a letter may have, lie in the blocks from b on: the blocks that they need are blocks of the stretch
+pub record Lies (s : Settings) (stretch : List ℕ) (n b : ℕ) : Type 0 where
+  pub walks : Walks s stretch (needs s n) b
+  pub most : n ≤ greatestLength
+
+-- the blocks from b on, `owed` of them, have so many words
+pub record Covers (s : Settings) (stretch : List ℕ) (owed b words : ℕ) : Type 0 where
+  pub walks : Walks s stretch owed b
+  pub room : words ≤ owed * (s .b - 1)
+
+-- a letter of n words lies in node i from block b on, and as many words may be written in node j from block c on
+pub record Copies (s : Settings) (memory : List ℕ) (n i b j c : ℕ) : Type 0 where
+  pub sized : Sized s memory
+  pub source : i < nodes
+  pub destination : j < nodes
+  pub from : Lies s (node s memory i) n b
+  pub to : Lies s (node s memory j) n c
