@@ -2,32 +2,31 @@
 --     copy-to, copy-other, copy-rows     the copy is made in the destination's stretch alone
 --     copy-read     the letter in its chain there is the letter
 --     lies-less, lies-chained     what a chain of the blocks needed gives to the functions on letters
-use mathlib.Core.Path.{_≡_, refl, sym, ap, ap₂, _∙_, subst}
+use mathlib.Core.Path.{_≡_, sym, ap, ap₂, _∙_}
 use mathlib.Core.Logic.{⊎-elim}
-use mathlib.Core.List.{List, [], _∷_, _++_}
-use Prim.Native.Nat.{ℕ, zero, suc, _+_, _-_, _*_, _/_, _≤_, _<_}
-use native.Mathlib.Nat.{div-add-mod, mod-lt, div-lt-iff-lt-mul, le-trans}
+use mathlib.Core.List.{List}
+use Prim.Native.Nat.{ℕ, zero, suc, _+_, _-_, _*_, _≤_, _<_}
+use native.Mathlib.Nat.{div-lt-iff-lt-mul, le-trans}
 use native.Mathlib.Omega.{arith}
-use lib.ListN.{length, getD, take, drop}
+use lib.ListN.{length}
 use lib.Seq.{length-take-le}
 use Rattle.words.specs.Words.{splice}
-use Rattle.words.specs.Rows.{start, row}
-use Rattle.words.specs.Count.{hit, occurs}
+use Rattle.words.specs.Rows.{row}
+use Rattle.words.specs.Count.{occurs}
 use Rattle.words.proofs.Lists.{put, le-or-lt}
 use Rattle.words.proofs.Parts.{length-part, part-splice, part-before, part-after, length-splice}
 use Rattle.words.proofs.Rows.{start-lt, row-splice}
 use Rattle.settings.specs.declared.Settings.{Settings}
-use Rattle.layout.specs.Places.{nodeSize, nodeAt, nodeEnd, memorySize, node, withNode}
+use Rattle.layout.specs.Places.{nodeSize, nodeAt, nodeEnd, node}
 use Rattle.layout.specs.Rows.{memoryWidth}
 use Rattle.layout.specs.Asked.{Stretch, Sized}
 use Rattle.layout.proofs.MemoryRows.{stretch-fits, start-stretch, width-stretch}
-use Rattle.blocks.specs.Chain.{needs, link, chain, text, Within, Once, Chained}
-use Rattle.blocks.specs.Asked.{Walks}
+use Rattle.blocks.specs.Chain.{needs, link, chain, text, Within, Chained}
 use Rattle.blocks.proofs.Chains.{length-text}
 use Rattle.blocks.proofs.Rows.{rows, within-in, text-rows, block-long}
 use Rattle.blocks.proofs.Moves.{length-chain}
 use Rattle.letters.specs.Letter.{letter, written, copied}
-use Rattle.letters.specs.Asked.{Lies, Copies}
+use Rattle.letters.specs.Asked.{Lies}
 use Rattle.letters.proofs.Rows.{needs-enough, length-laid}
 use Rattle.letters.proofs.Laws.{write-read}
 

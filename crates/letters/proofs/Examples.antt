@@ -1,8 +1,8 @@
 -- Letters of 5, 6, 7, 8 and 15 words with B = 4, 5 and 8 on a free list out of order, taken, written, read back and given back, as the checker computes them. Assumes nothing.
 use mathlib.Core.Path.{_≡_, refl}
 use mathlib.Core.List.{List, [], _∷_, _++_}
-use Prim.Native.Nat.{ℕ, zero, suc, _+_, _-_, _*_}
-use lib.ListN.{length, getD, take, drop, replicate}
+use Prim.Native.Nat.{ℕ, zero, suc, _+_, _-_}
+use lib.ListN.{length, take, drop, replicate}
 use Rattle.settings.specs.declared.Settings.{Settings}
 use Rattle.layout.specs.Places.{blocksAt, blockAt, nodeSize}
 use Rattle.blocks.specs.Chain.{needs, chain, after, list, free, text}

@@ -1,39 +1,36 @@
 -- What writing a letter does, in words: what is written is read back, words behind it stay, and no other chain changes. Assumes nothing.
 --     word-text, word-letter     word k of a letter is the k-th of its words
+--     letter-rows, lies-rows     a letter in rows is the letter in words, and may be read
 --     rows-letter     a letter written, as rows
 --     write-read, write-over     what is written is read back; the words behind it in the last block stay
 --     write-chain, write-after, write-free     every chain and the free list are as they were, so the counts of blocks too
 --     write-text, write-letter     so are the words of a chain that has no block in common
-use mathlib.Core.Path.{_≡_, refl, sym, ap, ap₂, _∙_, subst}
+use mathlib.Core.Path.{_≡_, sym, ap, _∙_}
 use mathlib.Core.Logic.{⊎-elim}
-use mathlib.Core.List.{List, [], _∷_, _++_}
-use Prim.Native.Nat.{ℕ, zero, suc, _+_, _-_, _*_, _/_, _%_, _≤_, _<_}
+use mathlib.Core.List.{List, _++_}
+use Prim.Native.Nat.{ℕ, zero, suc, _+_, _-_, _*_, _/_, _≤_, _<_}
 use native.Mathlib.Nat.{suc-mul, zero-mul, div-eq-of-lt, mod-eq-of-lt, div-eq-sub-div, mod-eq-sub-mod}
 use native.Mathlib.Numerals.{add-one}
 use native.Mathlib.Omega.{arith}
-use lib.ListN.{length, getD, take, drop, length-take, List·getD-append}
+use lib.ListN.{length, getD, take, List·getD-append}
 use lib.Seq.{getD-take, getD-append-add}
 use Rattle.words.specs.Words.{part}
-use Rattle.words.specs.Rows.{row}
-use Rattle.words.specs.Count.{hit, occurs}
-use Rattle.words.proofs.Lists.{put, le-or-lt}
+use Rattle.words.specs.Count.{occurs}
+use Rattle.words.proofs.Lists.{le-or-lt}
 use Rattle.words.proofs.Over.{over, over-read}
-use Rattle.words.proofs.Parts.{getD-part, length-part, part-splice, part-before, part-after}
-use Rattle.words.proofs.Rows.{row-splice}
+use Rattle.words.proofs.Parts.{getD-part, length-part}
 use Rattle.settings.specs.declared.Settings.{Settings}
-use Rattle.layout.specs.Places.{firstFreeAt, blockAt, linkAt, nodeSize, nodeAt, nodeEnd, memorySize, node, withNode}
-use Rattle.layout.specs.Rows.{memoryWidth}
-use Rattle.layout.specs.Asked.{Stretch, Sized}
+use Rattle.layout.specs.Places.{firstFreeAt, blockAt, linkAt, node}
+use Rattle.layout.specs.Asked.{Stretch}
 use Rattle.layout.proofs.Fits.{block-fits}
-use Rattle.layout.proofs.MemoryRows.{stretch-fits, start-stretch, width-stretch}
 use Rattle.blocks.specs.Chain.{needs, link, chain, after, free, text, Within, Once, Chained}
-use Rattle.blocks.specs.Asked.{Walks, FreeList}
-use Rattle.blocks.proofs.Chains.{linkIn, Leads, textIn, firstIn, length-text}
-use Rattle.blocks.proofs.Rows.{rows, within-in, link-rows, first-rows, text-rows, chain-is, after-is, free-is, chain-leads, free-leads, block-long}
+use Rattle.blocks.specs.Asked.{FreeList}
+use Rattle.blocks.proofs.Chains.{Leads, textIn, firstIn, length-text}
+use Rattle.blocks.proofs.Rows.{rows, within-in, first-rows, text-rows, chain-is, after-is, free-is, chain-leads, free-leads, leads-within, block-long}
 use Rattle.blocks.proofs.Moves.{length-chain, length-list}
-use Rattle.letters.specs.Letter.{word, letter, laid, written, copied}
+use Rattle.letters.specs.Letter.{word, letter, laid, written}
 use Rattle.letters.specs.Asked.{Lies}
-use Rattle.letters.proofs.Texts.{fill, fill-link, fill-leads, fill-other, fill-text, fill-apart}
+use Rattle.letters.proofs.Texts.{fill, fill-leads, fill-other, fill-text, fill-apart}
 use Rattle.letters.proofs.Rows.{needs-enough, length-laid, rows-written}
 
 -- ---- a word of a letter
@@ -87,6 +84,20 @@ module _ (s : Settings) (node : List ℕ) (st : Stretch s node) where
   word-letter n b k w l =
       word-text (needs s n) b k w (omega (arith, needs-enough s (st .range) n))
       ∙ sym (getD-take n (text s node (chain s node (needs s n) b)) k 0 l)
+
+  -- ---- a letter in rows: where they lead from b through the blocks l that n words need
+  module _ (n b e : ℕ) (l : List ℕ) (w : Within (s .m) l) (need : length l ≡ needs s n) (h : Leads (s .b) (rows s node) b l e) where
+    pub letter-rows : letter s node n b ≡ take n (textIn (s .b) (rows s node) l)
+    unfolding letter
+    letter-rows =
+        let i : (x : ℕ) → 1 ≤ occurs x l → 1 ≤ x = λ x o. within-in (s .m) l x w o .0 in
+        ap (take n)
+        (ap (λ (k : ℕ). text s node (chain s node k b)) (sym need)
+        ∙ ap (text s node) (chain-is s (st .range) node b l e i h)
+        ∙ text-rows s (st .range) node l i)
+
+    pub lies-rows : n ≤ 1024 → Lies s node n b
+    lies-rows m = record { walks = record { stretch = st; within = rw (← need) (leads-within s (st .range) node l w b e h) }; most = m }
 
 -- ---- a letter written
 module _ (s : Settings) (node : List ℕ) (st : Stretch s node) (b : ℕ) (ws : List ℕ) (wi : Within (s .m) (chain s node (needs s (length ws)) b)) where

@@ -2,14 +2,14 @@
 --     rows-block     a block's words stored are its row put anew
 --     rows-written     the words laid into a chain are `fill` over rows
 use mathlib.Core.Path.{_≡_, refl, sym, ap, _∙_, subst}
-use mathlib.Core.List.{List, [], _∷_, _++_}
-use Prim.Native.Nat.{ℕ, zero, suc, _+_, _-_, _*_, _/_, _≤_, _<_}
+use mathlib.Core.List.{List, [], _∷_}
+use Prim.Native.Nat.{ℕ, zero, suc, _+_, _-_, _*_, _≤_}
 use native.Mathlib.Nat.{add-zero, mod-lt, div-add-mod}
 use native.Mathlib.Omega.{arith}
-use lib.ListN.{length, getD, take, drop, length-take}
+use lib.ListN.{length, take, drop, length-take}
 use lib.Seq.{sets, length-sets}
-use Rattle.words.specs.Rows.{start, row}
-use Rattle.words.specs.Count.{hit, occurs}
+use Rattle.words.specs.Rows.{start}
+use Rattle.words.specs.Count.{occurs}
 use Rattle.words.proofs.Count.{hit-self}
 use Rattle.words.proofs.Lists.{put}
 use Rattle.words.proofs.Rows.{row-sets}
