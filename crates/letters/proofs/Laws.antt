@@ -18,20 +18,21 @@ use Rattle.words.specs.Words.{part}
 use Rattle.words.specs.Count.{occurs}
 use Rattle.words.proofs.Lists.{le-or-lt}
 use Rattle.words.proofs.Over.{over, over-read}
-use Rattle.words.proofs.Parts.{getD-part, length-part}
+use Rattle.words.proofs.Parts.{getD-part}
 use Rattle.settings.specs.declared.Settings.{Settings}
 use Rattle.layout.specs.Places.{firstFreeAt, blockAt, linkAt, node}
 use Rattle.layout.specs.Asked.{Stretch}
 use Rattle.layout.proofs.Fits.{block-fits}
 use Rattle.blocks.specs.Chain.{needs, link, chain, after, free, text, Within, Once, Chained}
 use Rattle.blocks.specs.Asked.{FreeList}
-use Rattle.blocks.proofs.Chains.{Leads, textIn, firstIn, length-text}
+use Rattle.blocks.proofs.Chains.{Leads, textIn, firstIn}
 use Rattle.blocks.proofs.Rows.{rows, within-in, first-rows, text-rows, chain-is, after-is, free-is, chain-leads, free-leads, leads-within, block-long}
 use Rattle.blocks.proofs.Moves.{length-chain, length-list}
 use Rattle.letters.specs.Letter.{word, letter, laid, written}
 use Rattle.letters.specs.Asked.{Lies}
 use Rattle.letters.proofs.Texts.{fill, fill-leads, fill-other, fill-text, fill-apart}
-use Rattle.letters.proofs.Rows.{needs-enough, length-laid, rows-written}
+use Rattle.letters.proofs.Rows.{chain-long, needs-enough, length-laid, rows-written}
+use Rattle.letters.proofs.Steps.{own-long}
 
 -- ---- a word of a letter
 module _ (s : Settings) (node : List ℕ) (st : Stretch s node) where
@@ -40,13 +41,6 @@ module _ (s : Settings) (node : List ℕ) (st : Stretch s node) where
       let f = block-fits s b h g in
       let z = st .long in
       getD-part node (blockAt s b) (linkAt s b) (omega arith) (omega arith) k (omega arith)
-
-  own-long : (b : ℕ) → 1 ≤ b → b ≤ s .m → length (part node (blockAt s b) (linkAt s b)) ≡ s .b - 1
-  own-long b h g =
-      let f = block-fits s b h g in
-      let z = st .long in
-      let w = st .range .b .low in
-      length-part node (blockAt s b) (linkAt s b) (omega arith) (omega arith) ∙ omega arith
 
   word-near : (b k : ℕ) → k < s .b - 1 → word s node b k ≡ getD node (blockAt s b + k) 0
   unfolding word after
@@ -64,7 +58,7 @@ module _ (s : Settings) (node : List ℕ) (st : Stretch s node) where
   unfolding chain text Within
   word-text zero b k w l = absurd (omega (arith, zero-mul (s .b - 1)))
   word-text (suc n) b k w l =
-      let z = own-long b (w .0 .0) (w .0 .1) in
+      let z = own-long s node st b (w .0 .0) (w .0 .1) in
       ⊎-elim
       (λ far.
       let e : k ≡ length (part node (blockAt s b) (linkAt s b)) + (k - (s .b - 1)) = omega arith in
@@ -194,8 +188,4 @@ module _ (s : Settings) (node : List ℕ) (st : Stretch s node) (b : ℕ) (ws : 
     unfolding letter
     write-read =
         let e : chain s new (needs s (length ws)) b ≡ c = write-chain (needs s (length ws)) b wi in
-        let l : length (text s node c) ≡ needs s (length ws) * (s .b - 1) =
-        ap length (text-rows s (st .range) node c (λ x o. in-c x o .0))
-        ∙ length-text (s .b) (rows s node) c (λ x o. block-long s node st x (in-c x o .0) (in-c x o .1))
-        ∙ ap (λ (k : ℕ). k * (s .b - 1)) (length-chain s node (needs s (length ws)) b) in
-        rw (e, write-over) (over-read ws (text s node c) (omega (arith, needs-enough s (st .range) (length ws))))
+        rw (e, write-over) (over-read ws (text s node c) (omega (arith, chain-long s node (needs s (length ws)) b (record { stretch = st; within = wi }), needs-enough s (st .range) (length ws))))

@@ -22,14 +22,11 @@ use Rattle.letters.proofs.Rows.{block-chain, needs-enough}
 
 -- ---- one block
 module _ (s : Settings) (node : List ℕ) (st : Stretch s node) (b : ℕ) (low : 1 ≤ b) (high : b ≤ s .m) where
-  -- the words of block b
-  abbrev own : List ℕ
-  own = part node (blockAt s b) (linkAt s b)
-
   fits : blockAt s b + s .b ≤ length node
   fits = rw (st .long) (block-fits s b low high)
 
-  own-long : length own ≡ s .b - 1
+  -- a block carries B-1 words
+  pub own-long : length (part node (blockAt s b) (linkAt s b)) ≡ s .b - 1
   own-long =
       let f = fits in
       let w = st .range .b .low in
