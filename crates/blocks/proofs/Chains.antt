@@ -2,15 +2,15 @@
 --     Leads, textIn     from b through the blocks l to e; the words of the blocks l
 --     Same, leads-same, text-same     THE FRAME: rows that are the same at the blocks of a chain have the same chain and words
 --     setLink, setFirst, leads-end     a link set anew, the first free block set anew; a chain turned to another end
-use mathlib.Core.Path.{_≡_, refl, sym, ap, ap₂, _∙_, fun-ext}
+use mathlib.Core.Path.{_≡_, refl, sym, ap, ap₂, _∙_}
 use mathlib.Core.List.{List, [], _∷_, _++_}
-use Prim.Native.Nat.{ℕ, zero, suc, _+_, _-_, _*_, _≤_, _<_}
+use Prim.Native.Nat.{ℕ, _+_, _-_, _*_, _≤_}
 use native.Mathlib.Nat.{suc-mul, zero-mul}
 use native.Mathlib.Omega.{arith}
 use lib.ListN.{length, getD, set, take, length-set, length-append}
 use lib.Seq.{getD-set-same, take-set-le, length-take-le}
-use Rattle.words.specs.Count.{hit, occurs}
-use Rattle.words.proofs.Count.{hit-self, occurs-append}
+use Rattle.words.specs.Count.{occurs}
+use Rattle.words.proofs.Count.{hit-self}
 use Rattle.words.proofs.Lists.{put, put-same, put-other, same?}
 
 -- the row of block b

@@ -1,13 +1,13 @@
 -- What taking and giving back do, over rows: to the chain, to the free list, to every other chain, to words and to counts. Assumes nothing.
-use mathlib.Core.Path.{_≡_, refl, sym, ap, _∙_, subst}
+use mathlib.Core.Path.{_≡_, ap, _∙_}
 use mathlib.Core.List.{List, [], _∷_, _++_}
-use Prim.Native.Nat.{ℕ, zero, suc, _+_, _-_, _≤_, _<_}
+use Prim.Native.Nat.{ℕ, _+_, _-_, _≤_}
 use native.Mathlib.Omega.{arith}
 use lib.ListN.{length, getD, set}
-use Rattle.words.specs.Count.{hit, occurs}
+use Rattle.words.specs.Count.{occurs}
 use Rattle.words.proofs.Count.{hit-self, occurs-append}
 use Rattle.blocks.specs.Chain.{Once}
-use Rattle.blocks.proofs.Chains.{linkIn, Leads, textIn, firstIn, Same, leads-same, text-same, text-words, same-trans, leads-append, leads-split, setFirst, first-block, first-other, first-zero, first-same, first-is, first-length, setLink, link-other, link-is, link-length, link-same, link-words, leads-end}
+use Rattle.blocks.proofs.Chains.{linkIn, Leads, textIn, firstIn, Same, leads-same, text-same, text-words, same-trans, leads-append, leads-split, setFirst, first-other, first-zero, first-same, first-is, first-length, setLink, link-other, link-length, link-same, link-words, leads-end}
 
 -- the rows after the blocks up to y are taken from the free list
 unfoldable pub takenRows : ℕ → (ℕ → List ℕ) → ℕ → ℕ → List ℕ

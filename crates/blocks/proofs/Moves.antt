@@ -1,30 +1,30 @@
 -- Taking and giving back in words: their rows, and what the chain, the free list, other chains and texts are afterwards. Assumes nothing.
 --     rows-taken, rows-given     the moves in words are the moves over rows of Laws
+--     take-answer, few-answer, few-taken     the answer; where there are too few, nothing changed
 --     take-free, take-chain, take-list, take-chained, take-other, take-text     what n blocks taken leave
 --     give-free, give-list, give-other, give-text     what a chain given back leaves
 --     give-taken     blocks taken and given back at once: nothing changed
 use mathlib.Core.Path.{_≡_, refl, sym, ap, ap₂, _∙_, subst}
-use mathlib.Core.Bool.{Bool, true, false, cond}
+use mathlib.Core.Bool.{true}
 use mathlib.Core.List.{List, [], _∷_, _++_}
 use Prim.Native.Nat.{ℕ, zero, suc, _+_, _-_, _≤_, _<_}
 use native.Mathlib.Omega.{arith}
 use lib.Dec.{leb, eqb}
-use lib.ListN.{length, getD, set, take, drop, length-set, length-append, length-take, length-drop}
+use lib.ListN.{length, getD, set, take, drop, length-set, length-append, length-drop}
 use lib.Seq.{split-at, take-suc, take-all, length-take-le, getD-append-seam, getD-set-same, getD-set-other, set-set, set-comm, set-getD}
 use borrow.Author.Tests.{le-leb, lt-leb}
-use Rattle.words.specs.Count.{hit, occurs}
+use Rattle.words.specs.Count.{occurs}
 use Rattle.words.proofs.Count.{hit-self, occurs-append, occurs-split}
 use Rattle.words.proofs.Lists.{both, same?}
 use Rattle.settings.specs.declared.Settings.{Settings}
-use Rattle.layout.specs.Places.{blockAt, linkAt, nodeSize}
+use Rattle.layout.specs.Places.{linkAt}
 use Rattle.layout.specs.Asked.{Stretch}
-use Rattle.layout.proofs.Fits.{block-fits}
-use Rattle.layout.specs.Places.{blocksAt}
 use Rattle.blocks.specs.Chain.{link, chain, after, list, free, text, Within, Once, Chained}
 use Rattle.blocks.specs.Asked.{FreeList}
-use Rattle.blocks.specs.Moves.{enough, taken, takenFrom, givenBack}
+use Rattle.blocks.specs.Moves.{enough, taken, takenFrom, takenAnswer, givenBack}
+use Rattle.blocks.specs.declared.Taken.the-variants.{First, Short}
 use Rattle.blocks.proofs.Steps.{down, head-fits}
-use Rattle.blocks.proofs.Chains.{linkIn, Leads, textIn, firstIn, setFirst, setLink, leads-split, leads-first}
+use Rattle.blocks.proofs.Chains.{Leads, textIn, firstIn, setFirst, setLink, leads-split}
 use Rattle.blocks.proofs.Rows.{rows, within-in, in-within, once-most, link-rows, rows-link, first-rows, rows-first, text-rows, chain-is, after-is, free-is, chain-leads, free-leads, block-long, head-long}
 use Rattle.blocks.proofs.Laws.{takenRows, givenRows, taken-chain, taken-free, taken-text, taken-leads, taken-count, given-free, given-text, given-leads}
 
@@ -56,6 +56,19 @@ module _ (s : Settings) (node : List ℕ) (st : Stretch s node) where
 
   pub given-stretch : (n b : ℕ) → Stretch s (givenBack s node n b)
   given-stretch n b = record { range = st .range; long = length-given s node n b ∙ st .long }
+
+  -- ---- the answer; and where there are too few, nothing changed
+  pub take-answer : (n : ℕ) → n ≤ length (free s node) → takenAnswer s node n ≡ First (getD node 0 0)
+  unfolding takenAnswer enough
+  take-answer n h = rw (le-leb n (length (free s node)) h)
+
+  pub few-answer : (n : ℕ) → length (free s node) < n → takenAnswer s node n ≡ Short
+  unfolding takenAnswer enough
+  few-answer n h = rw (lt-leb n (length (free s node)) h)
+
+  pub few-taken : (n : ℕ) → length (free s node) < n → taken s node n ≡ node
+  unfolding taken enough
+  few-taken n h = rw (lt-leb n (length (free s node)) h)
 
   -- ---- the rows
   taken-words : (xs : List ℕ) (y : ℕ) (ys : List ℕ) → free s node ≡ xs ++ y ∷ ys → taken s node (suc (length xs)) ≡ set (set node 0 (link s node y)) (linkAt s y) 0

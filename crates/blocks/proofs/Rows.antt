@@ -2,28 +2,27 @@
 --     link-rows, first-rows, text-rows     read in words, read in rows
 --     rows-link, rows-first     a link or the first free block stored
 --     chain-is, after-is, free-is     the chain that rows lead through IS the chain in words; chain-leads, free-leads     and back
+--     leads-within, leads-chained, leads-free, leads-list     what the functions ask, from what the rows lead through
 use mathlib.Core.Path.{_≡_, refl, sym, ap, ap₂, _∙_, subst}
-use mathlib.Core.Bool.{cond}
 use mathlib.Core.List.{List, [], _∷_, _++_}
-use Prim.Native.Nat.{ℕ, zero, suc, _+_, _-_, _≤_, _<_}
+use Prim.Native.Nat.{ℕ, zero, suc, _+_, _-_, _≤_}
 use native.Mathlib.Omega.{arith}
-use lib.Dec.{eqb}
-use lib.ListN.{length, getD, set, take, drop, length-take}
+use lib.ListN.{length, getD, set, take, drop}
 use lib.Seq.{take-take}
 use borrow.Author.Tests.{eq-eqb, ne-eqb}
 use Rattle.words.specs.Words.{part}
 use Rattle.words.specs.Rows.{start, row}
-use Rattle.words.specs.Count.{hit, occurs, downFrom}
-use Rattle.words.proofs.Count.{hit-self, hit-other, occurs-append, down-in, down-range, count-most}
+use Rattle.words.specs.Count.{occurs}
+use Rattle.words.proofs.Count.{hit-self, hit-other, down-in, count-most}
 use Rattle.words.proofs.Lists.{same?}
 use Rattle.words.proofs.Rows.{row-set, getD-row, length-row}
 use Rattle.settings.specs.declared.Settings.{Settings}
 use Rattle.settings.specs.Range.{InRange}
-use Rattle.layout.specs.Places.{blockAt, linkAt, nodeSize}
+use Rattle.layout.specs.Places.{blockAt, linkAt}
 use Rattle.layout.specs.Rows.{width}
 use Rattle.layout.specs.Asked.{Stretch}
 use Rattle.layout.proofs.NodeRows.{width-head, width-block, start-block, row-fits}
-use Rattle.blocks.specs.Chain.{link, chain, after, list, free, text, Within, Once}
+use Rattle.blocks.specs.Chain.{link, chain, after, list, free, text, Within, Once, Chained}
 use Rattle.blocks.specs.Asked.{FreeList}
 use Rattle.blocks.proofs.Chains.{linkIn, Leads, textIn, firstIn, setLink, setFirst}
 
@@ -138,6 +137,29 @@ module _ (s : Settings) (range : InRange s) where
         subst (λ (e : ℕ). Leads (s .b) (rows s l) (firstIn (rows s l)) (free s l) e) (f .ends)
         (subst (λ (b : ℕ). Leads (s .b) (rows s l) b (free s l) (after s l (length (free s l)) (getD l 0 0))) (first-rows l)
         (list-leads (s .m) (getD l 0 0) (λ x o. within-in (s .m) (free s l) x (f .within) o .0)))
+
+    -- ---- what the functions ask, from what the rows lead through
+    module _ (c : List ℕ) (w : Within (s .m) c) where
+      low : (x : ℕ) → 1 ≤ occurs x c → 1 ≤ x
+      low x o = within-in (s .m) c x w o .0
+
+      pub leads-within : (b e : ℕ) → Leads (s .b) (rows s l) b c e → Within (s .m) (chain s l (length c) b)
+      leads-within b e h = rw (chain-is b c e low h) w
+
+      pub leads-chained : (b : ℕ) → Once c → Leads (s .b) (rows s l) b c 0 → Chained s l (length c) b
+      leads-chained b o h = record { within = leads-within b 0 h; once = rw (chain-is b c 0 low h) o; ends = after-is b c 0 low h }
+
+      module _ (o : Once c) (h : Leads (s .b) (rows s l) (firstIn (rows s l)) c 0) where
+        pub leads-free : free s l ≡ c
+        leads-free = free-is c low (once-most (s .m) c w o) h
+
+        pub leads-list : FreeList s l
+        leads-list =
+            record {
+              within = rw leads-free w;
+              once = rw leads-free o;
+              ends = rw (leads-free, first-rows l) (after-is (firstIn (rows s l)) c 0 low h);
+            }
 
 -- how long the rows are
 module _ (s : Settings) (node : List ℕ) (st : Stretch s node) where

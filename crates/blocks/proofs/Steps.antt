@@ -1,21 +1,25 @@
 -- One step of each walk along the links, at a count n that the code holds as n and n - 1. Assumes nothing.
-use mathlib.Core.Path.{_≡_, refl, sym, ap, _∙_, subst}
-use mathlib.Core.Bool.{Bool, true, false, cond}
+use mathlib.Core.Path.{_≡_, refl, ap, _∙_, subst}
 use mathlib.Core.List.{List, [], _∷_}
-use Prim.Native.Nat.{ℕ, zero, suc, _+_, _-_, _≤_, _<_}
+use Prim.Native.Nat.{ℕ, zero, suc, _-_, _≤_, _<_}
 use native.Mathlib.Omega.{arith}
-use lib.Dec.{eqb, leb}
-use lib.ListN.{length, getD, set}
-use borrow.Author.Tests.{eq-eqb, ne-eqb, le-leb, lt-leb}
+use lib.ListN.{length, getD}
+use borrow.Author.Tests.{eq-eqb, ne-eqb}
 use Rattle.words.proofs.Lists.{same?}
 use Rattle.settings.specs.declared.Settings.{Settings}
 use Rattle.layout.specs.Places.{nodeSize}
+use Rattle.layout.specs.Asked.{Stretch}
+use Rattle.blocks.specs.Asked.{Block}
 use Rattle.blocks.specs.Chain.{link, chain, after, list, Within}
 
 -- the two words before the queues lie in the stretch
 pub head-fits : (s : Settings) → 2 ≤ nodeSize s
 unfolding nodeSize
 head-fits s = omega arith
+
+-- a number from 1 to M is that of a block
+pub is-block : (s : Settings) (node : List ℕ) (b : ℕ) → Stretch s node → (1 ≤ b) × (b ≤ s .m) → Block s node b
+is-block s node b st i = record { stretch = st; low = i .0; high = i .1 }
 
 -- from the code's n and n - 1 to `suc`, by which a definition recurses
 pub down : (n : ℕ) → 1 ≤ n → n ≡ suc (n - 1)

@@ -1,19 +1,18 @@
 -- What the code of taking finds: whether the free list has n blocks, and the n-th of them. Assumes nothing.
-use mathlib.Core.Path.{_≡_, refl, sym, ap, _∙_, subst}
-use mathlib.Core.Bool.{Bool, true, false, cond}
+use mathlib.Core.Path.{_≡_, ap, _∙_}
+use mathlib.Core.Bool.{true, false}
 use mathlib.Core.List.{List}
 use Prim.Native.Nat.{ℕ, _-_, _≤_, _<_}
 use native.Mathlib.Omega.{arith}
 use lib.Dec.{leb}
 use lib.ListN.{length, getD, set}
-use borrow.Author.Tests.{le-leb, lt-leb, leb-true}
+use borrow.Author.Tests.{le-leb, leb-true}
 use Rattle.words.proofs.Lists.{split}
 use Rattle.settings.specs.declared.Settings.{Settings}
 use Rattle.layout.specs.Places.{linkAt}
 use Rattle.blocks.specs.Chain.{link, list, free, Within}
 use Rattle.blocks.specs.Asked.{Takes}
 use Rattle.blocks.specs.Moves.{enough, taken, takenFrom, takenAnswer}
-use Rattle.blocks.specs.declared.Taken.{Taken}
 use Rattle.blocks.specs.declared.Taken.the-variants.{First, Short}
 use Rattle.blocks.proofs.Steps.{list-front, within-front, nth-in, nth-out}
 

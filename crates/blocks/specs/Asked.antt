@@ -6,12 +6,24 @@ use lib.ListN.{length, getD}
 use Rattle.settings.specs.declared.Settings.{Settings}
 use Rattle.layout.specs.Places.{firstFreeAt}
 use Rattle.layout.specs.Asked.{Stretch}
-use Rattle.blocks.specs.Chain.{chain, after, free, Within, Once}
+use Rattle.blocks.specs.Chain.{chain, after, list, free, Within, Once}
+
+-- b is the number of a block of the stretch
+pub record Block (s : Settings) (node : List ℕ) (b : ℕ) : Type 0 where
+  pub stretch : Stretch s node
+  pub low : 1 ≤ b
+  pub high : b ≤ s .m
 
 -- the n blocks from b on are blocks of the stretch
 pub record Walks (s : Settings) (node : List ℕ) (n b : ℕ) : Type 0 where
   pub stretch : Stretch s node
   pub within : Within (s .m) (chain s node n b)
+
+-- the blocks from b on up to a link 0, n at most and one at least, are blocks of the stretch
+pub record Reaches (s : Settings) (node : List ℕ) (n b : ℕ) : Type 0 where
+  pub stretch : Stretch s node
+  pub some : 1 ≤ n
+  pub within : Within (s .m) (list s node n b)
 
 -- the free list: its blocks are blocks, no two the same, and the last link is 0
 pub record FreeList (s : Settings) (node : List ℕ) : Type 0 where

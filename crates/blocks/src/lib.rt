@@ -4,10 +4,9 @@ ghost use mathlib.Core.Path.{_≡_};
 ghost use Prim.Native.Nat.{_-_, _≤_};
 ghost use lib.ListN.{getD, set};
 ghost use Rattle.settings.specs.Range.{InRange};
-ghost use Rattle.layout.specs.Places.{firstFreeAt, linkAt};
-ghost use Rattle.layout.specs.Asked.{Stretch};
-ghost use Rattle.blocks.specs.Chain.{needs, link, after, list, Within};
-ghost use Rattle.blocks.specs.Asked.{Walks, Takes};
+ghost use Rattle.layout.specs.Places.{linkAt};
+ghost use Rattle.blocks.specs.Chain.{needs, link, after, list};
+ghost use Rattle.blocks.specs.Asked.{Block, Walks, Reaches, Takes};
 ghost use Rattle.blocks.specs.Moves.{taken, takenAnswer, givenBack};
 
 // The blocks that n words need.
@@ -21,8 +20,7 @@ pub fn needs_of(s: Settings, n: usize) -> usize
 
 // The block that follows b.
 pub fn link_of(node: &[u32], s: Settings, b: u32) -> u32
-    requires { ⌜ Stretch s (now node) ⌝ }
-    requires { ⌜ (1 ≤ b) × (b ≤ s .m) ⌝ }
+    requires { ⌜ Block s (now node) b ⌝ }
     ensures { λ r. ⌜ r ≡ link s (now (node .entry)) b ⌝ }
 {
     let at = layout::link_at(s, b as usize);
@@ -31,8 +29,7 @@ pub fn link_of(node: &[u32], s: Settings, b: u32) -> u32
 
 // Makes `next` the block that follows b.
 pub fn set_link(node: &mut [u32], s: Settings, b: u32, next: u32)
-    requires { ⌜ Stretch s (now node) ⌝ }
-    requires { ⌜ (1 ≤ b) × (b ≤ s .m) ⌝ }
+    requires { ⌜ Block s (now node) b ⌝ }
     ensures { λ _. ⌜ now (node .exit) ≡ set (now (node .entry)) (linkAt s b) next ⌝ }
 {
     let at = layout::link_at(s, b as usize);
@@ -67,8 +64,7 @@ pub fn give_back(node: &mut [u32], s: Settings, b: u32, owed: usize)
 
 // The n-th block from b on; 0 where a link 0 comes before.
 pub fn reach(node: &[u32], s: Settings, b: u32, n: usize) -> u32
-    requires { ⌜ Stretch s (now node) ⌝ }
-    requires { ⌜ (1 ≤ n) × Within (s .m) (list s (now node) n b) ⌝ }
+    requires { ⌜ Reaches s (now node) n b ⌝ }
     ensures { λ r. ⌜ r ≡ getD (list s (now (node .entry)) n b) (n - 1) 0 ⌝ }
 {
     if b == 0 {

@@ -2,33 +2,28 @@
 --     copy-to, copy-other, copy-rows     the copy is made in the destination's stretch alone
 --     copy-read     the letter in its chain there is the letter
 --     lies-less, lies-chained     what a chain of the blocks needed gives to the functions on letters
-use mathlib.Core.Path.{_≡_, refl, sym, ap, ap₂, _∙_, subst}
+use mathlib.Core.Path.{_≡_, sym, ap, ap₂, _∙_}
 use mathlib.Core.Logic.{⊎-elim}
-use mathlib.Core.List.{List, [], _∷_, _++_}
-use Prim.Native.Nat.{ℕ, zero, suc, _+_, _-_, _*_, _/_, _≤_, _<_}
-use native.Mathlib.Nat.{div-add-mod, mod-lt, div-lt-iff-lt-mul, le-trans}
+use mathlib.Core.List.{List}
+use Prim.Native.Nat.{ℕ, zero, suc, _+_, _-_, _*_, _≤_, _<_}
+use native.Mathlib.Nat.{div-lt-iff-lt-mul, le-trans}
 use native.Mathlib.Omega.{arith}
-use lib.ListN.{length, getD, take, drop}
+use lib.ListN.{length}
 use lib.Seq.{length-take-le}
 use Rattle.words.specs.Words.{splice}
-use Rattle.words.specs.Rows.{start, row}
-use Rattle.words.specs.Count.{hit, occurs}
+use Rattle.words.specs.Rows.{row}
 use Rattle.words.proofs.Lists.{put, le-or-lt}
 use Rattle.words.proofs.Parts.{length-part, part-splice, part-before, part-after, length-splice}
 use Rattle.words.proofs.Rows.{start-lt, row-splice}
 use Rattle.settings.specs.declared.Settings.{Settings}
-use Rattle.layout.specs.Places.{nodeSize, nodeAt, nodeEnd, memorySize, node, withNode}
+use Rattle.layout.specs.Places.{nodeSize, nodeAt, nodeEnd, node}
 use Rattle.layout.specs.Rows.{memoryWidth}
 use Rattle.layout.specs.Asked.{Stretch, Sized}
 use Rattle.layout.proofs.MemoryRows.{stretch-fits, start-stretch, width-stretch}
-use Rattle.blocks.specs.Chain.{needs, link, chain, text, Within, Once, Chained}
-use Rattle.blocks.specs.Asked.{Walks}
-use Rattle.blocks.proofs.Chains.{length-text}
-use Rattle.blocks.proofs.Rows.{rows, within-in, text-rows, block-long}
-use Rattle.blocks.proofs.Moves.{length-chain}
+use Rattle.blocks.specs.Chain.{needs, link, chain, text, Within, Chained}
 use Rattle.letters.specs.Letter.{letter, written, copied}
-use Rattle.letters.specs.Asked.{Lies, Copies}
-use Rattle.letters.proofs.Rows.{needs-enough, length-laid}
+use Rattle.letters.specs.Asked.{Lies}
+use Rattle.letters.proofs.Rows.{chain-long, needs-enough, length-laid}
 use Rattle.letters.proofs.Laws.{write-read}
 
 -- ---- what a letter's functions ask
@@ -64,13 +59,8 @@ lies-chained s stretch n b st m c = record { walks = record { stretch = st; with
 pub length-letter : (s : Settings) (stretch : List ℕ) (n b : ℕ) → Lies s stretch n b → length (letter s stretch n b) ≡ n
 unfolding letter
 length-letter s stretch n b l =
-    let st = l .walks .stretch in
-    let i : (x : ℕ) → 1 ≤ occurs x (chain s stretch (needs s n) b) → (1 ≤ x) × (x ≤ s .m) = λ x o. within-in (s .m) (chain s stretch (needs s n) b) x (l .walks .within) o in
-    let z : length (text s stretch (chain s stretch (needs s n) b)) ≡ needs s n * (s .b - 1) =
-    ap length (text-rows s (st .range) stretch (chain s stretch (needs s n) b) (λ x o. i x o .0))
-    ∙ length-text (s .b) (rows s stretch) (chain s stretch (needs s n) b) (λ x o. block-long s stretch st x (i x o .0) (i x o .1))
-    ∙ ap (λ (k : ℕ). k * (s .b - 1)) (length-chain s stretch (needs s n) b) in
-    length-take-le n (text s stretch (chain s stretch (needs s n) b)) (omega (arith, needs-enough s (st .range) n))
+    length-take-le n (text s stretch (chain s stretch (needs s n) b))
+    (omega (arith, chain-long s stretch (needs s n) b (l .walks), needs-enough s (l .walks .stretch .range) n))
 
 -- ---- the nodes of a memory
 module _ (s : Settings) (memory : List ℕ) (sz : Sized s memory) where

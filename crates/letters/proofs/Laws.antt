@@ -1,40 +1,38 @@
 -- What writing a letter does, in words: what is written is read back, words behind it stay, and no other chain changes. Assumes nothing.
 --     word-text, word-letter     word k of a letter is the k-th of its words
+--     letter-rows, lies-rows     a letter in rows is the letter in words, and may be read
 --     rows-letter     a letter written, as rows
 --     write-read, write-over     what is written is read back; the words behind it in the last block stay
 --     write-chain, write-after, write-free     every chain and the free list are as they were, so the counts of blocks too
 --     write-text, write-letter     so are the words of a chain that has no block in common
-use mathlib.Core.Path.{_≡_, refl, sym, ap, ap₂, _∙_, subst}
+use mathlib.Core.Path.{_≡_, sym, ap, _∙_}
 use mathlib.Core.Logic.{⊎-elim}
-use mathlib.Core.List.{List, [], _∷_, _++_}
-use Prim.Native.Nat.{ℕ, zero, suc, _+_, _-_, _*_, _/_, _%_, _≤_, _<_}
+use mathlib.Core.List.{List, _++_}
+use Prim.Native.Nat.{ℕ, zero, suc, _+_, _-_, _*_, _/_, _≤_, _<_}
 use native.Mathlib.Nat.{suc-mul, zero-mul, div-eq-of-lt, mod-eq-of-lt, div-eq-sub-div, mod-eq-sub-mod}
 use native.Mathlib.Numerals.{add-one}
 use native.Mathlib.Omega.{arith}
-use lib.ListN.{length, getD, take, drop, length-take, List·getD-append}
+use lib.ListN.{length, getD, take, List·getD-append}
 use lib.Seq.{getD-take, getD-append-add}
 use Rattle.words.specs.Words.{part}
-use Rattle.words.specs.Rows.{row}
-use Rattle.words.specs.Count.{hit, occurs}
-use Rattle.words.proofs.Lists.{put, le-or-lt}
+use Rattle.words.specs.Count.{occurs}
+use Rattle.words.proofs.Lists.{le-or-lt}
 use Rattle.words.proofs.Over.{over, over-read}
-use Rattle.words.proofs.Parts.{getD-part, length-part, part-splice, part-before, part-after}
-use Rattle.words.proofs.Rows.{row-splice}
+use Rattle.words.proofs.Parts.{getD-part}
 use Rattle.settings.specs.declared.Settings.{Settings}
-use Rattle.layout.specs.Places.{firstFreeAt, blockAt, linkAt, nodeSize, nodeAt, nodeEnd, memorySize, node, withNode}
-use Rattle.layout.specs.Rows.{memoryWidth}
-use Rattle.layout.specs.Asked.{Stretch, Sized}
+use Rattle.layout.specs.Places.{firstFreeAt, blockAt, linkAt, node}
+use Rattle.layout.specs.Asked.{Stretch}
 use Rattle.layout.proofs.Fits.{block-fits}
-use Rattle.layout.proofs.MemoryRows.{stretch-fits, start-stretch, width-stretch}
 use Rattle.blocks.specs.Chain.{needs, link, chain, after, free, text, Within, Once, Chained}
-use Rattle.blocks.specs.Asked.{Walks, FreeList}
-use Rattle.blocks.proofs.Chains.{linkIn, Leads, textIn, firstIn, length-text}
-use Rattle.blocks.proofs.Rows.{rows, within-in, link-rows, first-rows, text-rows, chain-is, after-is, free-is, chain-leads, free-leads, block-long}
+use Rattle.blocks.specs.Asked.{FreeList}
+use Rattle.blocks.proofs.Chains.{Leads, textIn, firstIn}
+use Rattle.blocks.proofs.Rows.{rows, within-in, first-rows, text-rows, chain-is, after-is, free-is, chain-leads, free-leads, leads-within, block-long}
 use Rattle.blocks.proofs.Moves.{length-chain, length-list}
-use Rattle.letters.specs.Letter.{word, letter, laid, written, copied}
+use Rattle.letters.specs.Letter.{word, letter, laid, written}
 use Rattle.letters.specs.Asked.{Lies}
-use Rattle.letters.proofs.Texts.{fill, fill-link, fill-leads, fill-other, fill-text, fill-apart}
-use Rattle.letters.proofs.Rows.{needs-enough, length-laid, rows-written}
+use Rattle.letters.proofs.Texts.{fill, fill-leads, fill-other, fill-text, fill-apart}
+use Rattle.letters.proofs.Rows.{chain-long, needs-enough, length-laid, rows-written}
+use Rattle.letters.proofs.Steps.{own-long}
 
 -- ---- a word of a letter
 module _ (s : Settings) (node : List ℕ) (st : Stretch s node) where
@@ -43,13 +41,6 @@ module _ (s : Settings) (node : List ℕ) (st : Stretch s node) where
       let f = block-fits s b h g in
       let z = st .long in
       getD-part node (blockAt s b) (linkAt s b) (omega arith) (omega arith) k (omega arith)
-
-  own-long : (b : ℕ) → 1 ≤ b → b ≤ s .m → length (part node (blockAt s b) (linkAt s b)) ≡ s .b - 1
-  own-long b h g =
-      let f = block-fits s b h g in
-      let z = st .long in
-      let w = st .range .b .low in
-      length-part node (blockAt s b) (linkAt s b) (omega arith) (omega arith) ∙ omega arith
 
   word-near : (b k : ℕ) → k < s .b - 1 → word s node b k ≡ getD node (blockAt s b + k) 0
   unfolding word after
@@ -67,7 +58,7 @@ module _ (s : Settings) (node : List ℕ) (st : Stretch s node) where
   unfolding chain text Within
   word-text zero b k w l = absurd (omega (arith, zero-mul (s .b - 1)))
   word-text (suc n) b k w l =
-      let z = own-long b (w .0 .0) (w .0 .1) in
+      let z = own-long s node st b (w .0 .0) (w .0 .1) in
       ⊎-elim
       (λ far.
       let e : k ≡ length (part node (blockAt s b) (linkAt s b)) + (k - (s .b - 1)) = omega arith in
@@ -87,6 +78,20 @@ module _ (s : Settings) (node : List ℕ) (st : Stretch s node) where
   word-letter n b k w l =
       word-text (needs s n) b k w (omega (arith, needs-enough s (st .range) n))
       ∙ sym (getD-take n (text s node (chain s node (needs s n) b)) k 0 l)
+
+  -- ---- a letter in rows: where they lead from b through the blocks l that n words need
+  module _ (n b e : ℕ) (l : List ℕ) (w : Within (s .m) l) (need : length l ≡ needs s n) (h : Leads (s .b) (rows s node) b l e) where
+    pub letter-rows : letter s node n b ≡ take n (textIn (s .b) (rows s node) l)
+    unfolding letter
+    letter-rows =
+        let i : (x : ℕ) → 1 ≤ occurs x l → 1 ≤ x = λ x o. within-in (s .m) l x w o .0 in
+        ap (take n)
+        (ap (λ (k : ℕ). text s node (chain s node k b)) (sym need)
+        ∙ ap (text s node) (chain-is s (st .range) node b l e i h)
+        ∙ text-rows s (st .range) node l i)
+
+    pub lies-rows : n ≤ 1024 → Lies s node n b
+    lies-rows m = record { walks = record { stretch = st; within = rw (← need) (leads-within s (st .range) node l w b e h) }; most = m }
 
 -- ---- a letter written
 module _ (s : Settings) (node : List ℕ) (st : Stretch s node) (b : ℕ) (ws : List ℕ) (wi : Within (s .m) (chain s node (needs s (length ws)) b)) where
@@ -183,8 +188,4 @@ module _ (s : Settings) (node : List ℕ) (st : Stretch s node) (b : ℕ) (ws : 
     unfolding letter
     write-read =
         let e : chain s new (needs s (length ws)) b ≡ c = write-chain (needs s (length ws)) b wi in
-        let l : length (text s node c) ≡ needs s (length ws) * (s .b - 1) =
-        ap length (text-rows s (st .range) node c (λ x o. in-c x o .0))
-        ∙ length-text (s .b) (rows s node) c (λ x o. block-long s node st x (in-c x o .0) (in-c x o .1))
-        ∙ ap (λ (k : ℕ). k * (s .b - 1)) (length-chain s node (needs s (length ws)) b) in
-        rw (e, write-over) (over-read ws (text s node c) (omega (arith, needs-enough s (st .range) (length ws))))
+        rw (e, write-over) (over-read ws (text s node c) (omega (arith, chain-long s node (needs s (length ws)) b (record { stretch = st; within = wi }), needs-enough s (st .range) (length ws))))

@@ -3,3 +3,4 @@ pub mod Rows
 pub mod Steps
 pub mod Laws
 pub mod Copies
+pub mod Examples

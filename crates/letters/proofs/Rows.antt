@@ -2,14 +2,14 @@
 --     rows-block     a block's words stored are its row put anew
 --     rows-written     the words laid into a chain are `fill` over rows
 use mathlib.Core.Path.{_≡_, refl, sym, ap, _∙_, subst}
-use mathlib.Core.List.{List, [], _∷_, _++_}
-use Prim.Native.Nat.{ℕ, zero, suc, _+_, _-_, _*_, _/_, _≤_, _<_}
+use mathlib.Core.List.{List, [], _∷_}
+use Prim.Native.Nat.{ℕ, zero, suc, _+_, _-_, _*_, _≤_}
 use native.Mathlib.Nat.{add-zero, mod-lt, div-add-mod}
 use native.Mathlib.Omega.{arith}
-use lib.ListN.{length, getD, take, drop, length-take}
+use lib.ListN.{length, take, drop, length-take}
 use lib.Seq.{sets, length-sets}
-use Rattle.words.specs.Rows.{start, row}
-use Rattle.words.specs.Count.{hit, occurs}
+use Rattle.words.specs.Rows.{start}
+use Rattle.words.specs.Count.{occurs}
 use Rattle.words.proofs.Count.{hit-self}
 use Rattle.words.proofs.Lists.{put}
 use Rattle.words.proofs.Rows.{row-sets}
@@ -19,12 +19,22 @@ use Rattle.settings.specs.Range.{InRange}
 use Rattle.layout.specs.Places.{blockAt}
 use Rattle.layout.specs.Rows.{width}
 use Rattle.layout.proofs.NodeRows.{width-block, start-block}
-use Rattle.blocks.specs.Chain.{needs, link, chain, after, Within}
-use Rattle.blocks.proofs.Chains.{linkIn, Leads}
-use Rattle.blocks.proofs.Rows.{rows, within-in, link-rows, chain-is, chain-leads}
+use Rattle.blocks.specs.Chain.{needs, link, chain, after, text, Within}
+use Rattle.blocks.specs.Asked.{Walks}
+use Rattle.blocks.proofs.Chains.{linkIn, Leads, length-text}
+use Rattle.blocks.proofs.Rows.{rows, within-in, link-rows, text-rows, chain-is, chain-leads, block-long}
 use Rattle.blocks.proofs.Moves.{length-chain}
 use Rattle.letters.specs.Letter.{laid}
 use Rattle.letters.proofs.Texts.{fill, fill-link, fill-leads}
+
+-- a chain of n blocks has n times B-1 words
+pub chain-long : (s : Settings) (node : List ℕ) (n b : ℕ) → Walks s node n b → length (text s node (chain s node n b)) ≡ n * (s .b - 1)
+chain-long s node n b w =
+    let st = w .stretch in
+    let i : (x : ℕ) → 1 ≤ occurs x (chain s node n b) → (1 ≤ x) × (x ≤ s .m) = λ x o. within-in (s .m) (chain s node n b) x (w .within) o in
+    ap length (text-rows s (st .range) node (chain s node n b) (λ x o. i x o .0))
+    ∙ length-text (s .b) (rows s node) (chain s node n b) (λ x o. block-long s node st x (i x o .0) (i x o .1))
+    ∙ ap (λ (k : ℕ). k * (s .b - 1)) (length-chain s node n b)
 
 -- the blocks needed have room for the words
 pub needs-enough : (s : Settings) → InRange s → (n : ℕ) → n ≤ needs s n * (s .b - 1)

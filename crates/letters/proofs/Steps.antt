@@ -1,11 +1,11 @@
 -- What the code of reading and writing does, a block at a time. Assumes nothing.
-use mathlib.Core.Path.{_≡_, refl, sym, ap, ap₂, _∙_, subst}
+use mathlib.Core.Path.{_≡_, refl, sym, ap, ap₂, _∙_}
 use mathlib.Core.List.{List, [], _∷_, _++_, append-nil, append-assoc}
 use Prim.Native.Nat.{ℕ, zero, suc, _+_, _-_, _*_, _/_, _%_, _≤_, _<_, min}
-use native.Mathlib.Nat.{suc-mul, zero-mul, add-div-right, mod-lt, div-add-mod}
+use native.Mathlib.Nat.{suc-mul, zero-mul, add-div-right, mod-lt}
 use native.Mathlib.Omega.{arith}
 use lib.ListN.{length, getD, take, drop, length-append, length-take, length-drop, drop-of-length-le}
-use lib.Seq.{sets, sets-eq, length-sets, take-all, take-at, drop-at, drop-drop, drop-append-le, drop-append-add, length-take-le}
+use lib.Seq.{sets, sets-eq, length-sets, take-all, take-at, drop-drop, drop-append-le, drop-append-add, length-take-le}
 use borrow.Rule.Slice.PartMut.{putMid, postOf, post-is}
 use Rattle.words.specs.Words.{part, splice}
 use Rattle.words.proofs.Parts.{back, length-part, take-least, drop-take, take-join, drop-front}
@@ -13,23 +13,20 @@ use Rattle.settings.specs.declared.Settings.{Settings}
 use Rattle.layout.specs.Places.{blockAt, linkAt, nodeSize, nodeAt, node}
 use Rattle.layout.specs.Asked.{Stretch}
 use Rattle.layout.proofs.Fits.{block-fits, node-small}
-use Rattle.blocks.specs.Chain.{needs, link, chain, after, text, Within}
-use Rattle.blocks.specs.Asked.{Walks}
-use Rattle.blocks.proofs.Steps.{down, chain-step, within-step, last-in}
+use Rattle.blocks.specs.Chain.{needs, link, chain, after, text}
+use Rattle.blocks.specs.Asked.{Block, Walks}
+use Rattle.blocks.proofs.Steps.{is-block, down, chain-step, within-step, last-in}
 use Rattle.letters.specs.Letter.{onto, word, letter, piece, laid, written, copied}
 use Rattle.letters.specs.Asked.{Lies, Covers, Copies}
 use Rattle.letters.proofs.Rows.{block-chain, needs-enough}
 
 -- ---- one block
 module _ (s : Settings) (node : List ℕ) (st : Stretch s node) (b : ℕ) (low : 1 ≤ b) (high : b ≤ s .m) where
-  -- the words of block b
-  abbrev own : List ℕ
-  own = part node (blockAt s b) (linkAt s b)
-
   fits : blockAt s b + s .b ≤ length node
   fits = rw (st .long) (block-fits s b low high)
 
-  own-long : length own ≡ s .b - 1
+  -- a block carries B-1 words
+  pub own-long : length (part node (blockAt s b) (linkAt s b)) ≡ s .b - 1
   own-long =
       let f = fits in
       let w = st .range .b .low in
@@ -80,8 +77,11 @@ module _ (s : Settings) (node : List ℕ) (st : Stretch s node) (b : ℕ) (low :
 
 -- ---- the words of a chain, the first block's and the others'
 module _ (s : Settings) (node : List ℕ) (owed b : ℕ) (ws : Walks s node owed b) (some : 1 ≤ owed) where
-  pub head-in : (1 ≤ b) × (b ≤ s .m)
+  head-in : (1 ≤ b) × (b ≤ s .m)
   head-in = within-step s node (s .m) owed b some (ws .within) .0
+
+  pub head-block : Block s node b
+  head-block = is-block s node b (ws .stretch) head-in
 
   pub walks-rest : Walks s node (owed - 1) (link s node b)
   walks-rest = record { stretch = ws .stretch; within = within-step s node (s .m) owed b some (ws .within) .1 }

@@ -5,16 +5,16 @@
 --     fill-apart     a chain with no block in common keeps its text
 use mathlib.Core.Path.{_≡_, refl, sym, ap, ap₂, _∙_}
 use mathlib.Core.List.{List, [], _∷_, _++_}
-use Prim.Native.Nat.{ℕ, zero, suc, _+_, _-_, _*_, _≤_, _<_}
+use Prim.Native.Nat.{ℕ, _+_, _-_, _*_, _≤_}
 use native.Mathlib.Omega.{arith}
-use lib.ListN.{length, getD, take, drop, length-take}
+use lib.ListN.{length, take, drop, length-take}
 use lib.Seq.{take-take, length-take-le}
-use Rattle.words.specs.Count.{hit, occurs}
+use Rattle.words.specs.Count.{occurs}
 use Rattle.words.proofs.Count.{hit-self}
 use Rattle.words.proofs.Lists.{put, put-same, put-other, same?}
 use Rattle.words.proofs.Over.{over, length-over, over-nil, over-append, take-over, over-read, getD-over}
 use Rattle.blocks.specs.Chain.{Once}
-use Rattle.blocks.proofs.Chains.{linkIn, Leads, textIn, firstIn, Same, leads-links, text-same, same-put, length-text}
+use Rattle.blocks.proofs.Chains.{linkIn, Leads, textIn, Same, leads-links, text-same, same-put, length-text}
 
 unfoldable pub fill : ℕ → (ℕ → List ℕ) → List ℕ → List ℕ → ℕ → List ℕ
 fill B R [] ws = R

@@ -1,17 +1,22 @@
 -- What a sound memory gives, and the functions on letters ask for.
 use mathlib.Core.List.{List}
-use Prim.Native.Nat.{ℕ, _+_, _-_, _*_, _≤_, _<_}
+use Prim.Native.Nat.{ℕ, _-_, _*_, _≤_, _<_}
 use Rattle.settings.specs.declared.Settings.{Settings}
 use Rattle.layout.specs.Places.{nodes, node}
 use Rattle.layout.specs.Numbers.{greatestLength}
-use Rattle.layout.specs.Asked.{Stretch, Sized}
-use Rattle.blocks.specs.Chain.{needs, chain, Within}
-use Rattle.blocks.specs.Asked.{Walks}
+use Rattle.layout.specs.Asked.{Sized}
+use Rattle.blocks.specs.Chain.{needs}
+use Rattle.blocks.specs.Asked.{Block, Walks}
 
 -- n words, no more than a letter may have, lie in the blocks from b on: the blocks that they need are blocks of the stretch
 pub record Lies (s : Settings) (stretch : List ℕ) (n b : ℕ) : Type 0 where
   pub walks : Walks s stretch (needs s n) b
   pub most : n ≤ greatestLength
+
+-- word `at` is one that block b carries
+pub record Carries (s : Settings) (stretch : List ℕ) (b at : ℕ) : Type 0 where
+  pub block : Block s stretch b
+  pub inside : at < s .b - 1
 
 -- the blocks from b on, `owed` of them, have so many words
 pub record Covers (s : Settings) (stretch : List ℕ) (owed b words : ℕ) : Type 0 where

@@ -1,16 +1,15 @@
 // Letters in their chains of blocks: read, written and copied.
 use settings::Settings;
 ghost use mathlib.Core.Path.{_≡_};
-ghost use Prim.Native.Nat.{_+_, _-_, _≤_, _<_, min};
+ghost use Prim.Native.Nat.{_+_, _-_, min};
 ghost use lib.ListN.{length, take, drop};
 ghost use lib.Seq.{sets};
 ghost use Rattle.layout.specs.Places.{blockAt};
 ghost use Rattle.layout.specs.Numbers.{headerWords};
-ghost use Rattle.layout.specs.Asked.{Stretch};
 ghost use Rattle.blocks.specs.Chain.{chain, text};
-ghost use Rattle.blocks.specs.Asked.{Walks};
+ghost use Rattle.blocks.specs.Asked.{Block, Walks};
 ghost use Rattle.letters.specs.Letter.{onto, word, told, letter, piece, laid, written, copied};
-ghost use Rattle.letters.specs.Asked.{Lies, Covers, Copies};
+ghost use Rattle.letters.specs.Asked.{Lies, Carries, Covers, Copies};
 
 // Word k of the letter that block b begins.
 pub fn word_of(node: &[u32], s: Settings, b: u32, k: usize) -> u32
@@ -40,9 +39,7 @@ fn fewer(a: usize, b: usize) -> usize
 
 // The words of block b from word `at` on, as many as `out` has room for; how many they are.
 pub fn read_block(node: &[u32], s: Settings, b: u32, at: usize, out: &mut [u32]) -> usize
-    requires { ⌜ Stretch s (now node) ⌝ }
-    requires { ⌜ (1 ≤ b) × (b ≤ s .m) ⌝ }
-    requires { ⌜ at < s .b - 1 ⌝ }
+    requires { ⌜ Carries s (now node) b at ⌝ }
     ensures answer { λ r. ⌜ r ≡ length (piece s (now (node .entry)) b at (length (now (out .entry)))) ⌝ }
     ensures got { λ _. ⌜ now (out .exit) ≡ onto (piece s (now (node .entry)) b at (length (now (out .entry)))) (now (out .entry)) ⌝ }
 {
@@ -84,8 +81,7 @@ pub fn read(node: &[u32], s: Settings, b: u32, at: usize, out: &mut [u32])
 
 // Writes the first of the words into block b, as many as it carries; how many they are.
 pub fn write_block(node: &mut [u32], s: Settings, b: u32, words: &[u32]) -> usize
-    requires { ⌜ Stretch s (now node) ⌝ }
-    requires { ⌜ (1 ≤ b) × (b ≤ s .m) ⌝ }
+    requires { ⌜ Block s (now node) b ⌝ }
     ensures answer { λ r. ⌜ r ≡ length (take (s .b - 1) (now (words .entry))) ⌝ }
     ensures stored { λ _. ⌜ now (node .exit) ≡ sets (now (node .entry)) (blockAt s b) (take (s .b - 1) (now (words .entry))) ⌝ }
 {

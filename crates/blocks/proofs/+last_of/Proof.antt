@@ -1,6 +1,6 @@
 -- `blocks::last_of` meets its contract. The measure is the number of blocks that are owed. Assumes nothing.
 use mathlib.Core.Path.{sym}
-use Rattle.blocks.proofs.Steps.{after-step, after-none, within-step}
+use Rattle.blocks.proofs.Steps.{is-block, after-step, after-none, within-step}
 use native.Mathlib.Omega.{arith}
 use Prim.Native.Nat.{ℕ, _<_, _-_}
 use borrow.Fn.Kinds.{In}
@@ -25,7 +25,7 @@ module _ (t : ℕ) where
   link-of-requires : lts.Need-link-of-requires calls Pre own.Post
   link-of-requires c κs =
       let p = c .before .before .pre .1 in
-      (p .0 .stretch, within-step _ _ _ _ _ (p .1) (p .0 .within) .0)
+      is-block _ _ _ (p .0 .stretch) (within-step _ _ _ _ _ (p .1) (p .0 .within) .0)
 
   sub-last-of : lts.Need-sub-last-of calls Pre own.Post
   sub-last-of c = omega arith

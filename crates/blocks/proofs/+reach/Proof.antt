@@ -1,6 +1,6 @@
 -- `blocks::reach` meets its contract. The measure is the number of blocks to go. Assumes nothing.
 use mathlib.Core.Path.{sym}
-use Rattle.blocks.proofs.Steps.{nth-none, nth-one, nth-step, within-list}
+use Rattle.blocks.proofs.Steps.{is-block, nth-none, nth-one, nth-step, within-list}
 use native.Mathlib.Omega.{arith}
 use Prim.Native.Nat.{ℕ, _<_, _-_}
 use borrow.Fn.Kinds.{In}
@@ -31,7 +31,7 @@ module _ (t : ℕ) where
   link-of-requires : lts.Need-link-of-requires calls Pre own.Post
   link-of-requires c κs =
       let p = c .before .before .before .pre .1 in
-      (p .0, within-list _ _ _ _ _ (p .1 .0) (c .before .if1 .left) (p .1 .1) .0)
+      is-block _ _ _ (p .stretch) (within-list _ _ _ _ _ (p .some) (c .before .if1 .left) (p .within) .0)
 
   sub-reach : lts.Need-sub-reach calls Pre own.Post
   sub-reach c = omega arith
@@ -39,7 +39,7 @@ module _ (t : ℕ) where
   reach-requires : lts.Need-reach-requires calls Pre own.Post
   reach-requires c κs =
       let p = c .before .before .before .before .pre .1 in
-      (omega arith, (p .0, (omega arith, rw (c .link-of .ensures) (within-list _ _ _ _ _ (p .1 .0) (c .before .before .if1 .left) (p .1 .1) .1))))
+      (omega arith, record { stretch = p .stretch; some = omega arith; within = rw (c .link-of .ensures) (within-list _ _ _ _ _ (p .some) (c .before .before .if1 .left) (p .within) .1) })
 
   returns-3 : lts.Need-returns-3 calls Pre own.Post
   returns-3 c =

@@ -1,9 +1,8 @@
 -- `letters::read_chain` meets its contract. The measure is the number of blocks that are owed. Assumes nothing.
-use mathlib.Core.Path.{_∙_}
 use Prim.Native.Nat.{_+_, _≤_}
 use lib.ListN.{length}
 use borrow.Author.Needs.{needs}
-use Rattle.letters.proofs.Steps.{head-in, covers-some, covers-skip, covers-rest, piece-most, read-none, read-skip, read-both}
+use Rattle.letters.proofs.Steps.{head-block, covers-some, covers-skip, covers-rest, piece-most, read-none, read-skip, read-both}
 use native.Mathlib.Omega.{arith}
 use Prim.Native.Nat.{ℕ, _<_}
 use borrow.Fn.Kinds.{In}
@@ -34,7 +33,7 @@ module _ (t : ℕ) where
       let x = c .before .before .before in
       let p = x .pre .1 in
       let o : 1 ≤ x .args .owed = covers-some (x .args .s) (x .args .node .now) (x .args .owed) (x .args .b) (x .args .at + length (x .args .out .now)) p (omega arith) in
-      (p .walks .stretch, head-in (x .args .s) (x .args .node .now) (x .args .owed) (x .args .b) (p .walks) o)
+      head-block (x .args .s) (x .args .node .now) (x .args .owed) (x .args .b) (p .walks) o
 
   sub-room : lts.Need-sub-room calls Pre own.Post
   sub-room c = search needs
@@ -58,7 +57,7 @@ module _ (t : ℕ) where
       let x = c .before .before .before .before .before .before .before in
       let p = x .pre .1 in
       let o : 1 ≤ x .args .owed = covers-some (x .args .s) (x .args .node .now) (x .args .owed) (x .args .b) (x .args .at + length (x .args .out .now)) p (omega arith) in
-      (p .walks .stretch, (head-in (x .args .s) (x .args .node .now) (x .args .owed) (x .args .b) (p .walks) o, c .before .if2 .left))
+      record { block = head-block (x .args .s) (x .args .node .now) (x .args .owed) (x .args .b) (p .walks) o; inside = c .before .if2 .left }
 
   sub-read-chain-2 : lts.Need-sub-read-chain-2 calls Pre own.Post
   sub-read-chain-2 c =

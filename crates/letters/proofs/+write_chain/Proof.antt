@@ -3,7 +3,7 @@ use mathlib.Core.Path.{sym, _∙_}
 use Prim.Native.Nat.{_≤_}
 use lib.ListN.{length-take}
 use borrow.Author.Needs.{needs}
-use Rattle.letters.proofs.Steps.{head-in, laid-none, walks-laid, laid-step}
+use Rattle.letters.proofs.Steps.{head-block, laid-none, walks-laid, laid-step}
 use native.Mathlib.Omega.{arith}
 use Prim.Native.Nat.{ℕ, _<_}
 use borrow.Fn.Kinds.{In}
@@ -34,14 +34,14 @@ module _ (t : ℕ) where
       let x = c .before .before .before .before in
       let p = x .pre .1 in
       let o : 1 ≤ x .args .owed = omega arith in
-      (p .stretch, head-in (x .args .s) (x .args .node .now) (x .args .owed) (x .args .b) p o)
+      head-block (x .args .s) (x .args .node .now) (x .args .owed) (x .args .b) p o
 
   write-block-requires : lts.Need-write-block-requires calls Pre own.Post
   write-block-requires c κs =
       let x = c .before .before .before .before .before .before in
       let p = x .pre .1 in
       let o : 1 ≤ x .args .owed = omega arith in
-      (p .stretch, head-in (x .args .s) (x .args .node .now) (x .args .owed) (x .args .b) p o)
+      head-block (x .args .s) (x .args .node .now) (x .args .owed) (x .args .b) p o
 
   sub-write-chain : lts.Need-sub-write-chain calls Pre own.Post
   sub-write-chain c = omega arith

@@ -57,8 +57,8 @@ returns c =
     let x = c .before .before .before .before .before .before .before .before .before .before in
     let n = c .before .before .before .before .before .before .fewer .ensures in
     let a = ap (λ (k : ℕ). k + x .args .at) (c .before .before .before .before .before .block-at .ensures .is) in (
-      piece-long (x .args .s) (x .args .node .now) (x .pre .0) (x .args .b) (x .pre .1 .0 .0) (x .pre .1 .0 .1) (x .args .at) (x .pre .1 .1) (length (x .args .out .now)) _ _ n a,
-      piece-got (x .args .s) (x .args .node .now) (x .pre .0) (x .args .b) (x .pre .1 .0 .0) (x .pre .1 .0 .1) (x .args .at) (x .pre .1 .1) (length (x .args .out .now)) _ _ n a (x .args .out .now) _ (c .before .before .copy .ensures),
+      piece-long (x .args .s) (x .args .node .now) (x .pre .block .stretch) (x .args .b) (x .pre .block .low) (x .pre .block .high) (x .args .at) (x .pre .inside) (length (x .args .out .now)) _ _ n a,
+      piece-got (x .args .s) (x .args .node .now) (x .pre .block .stretch) (x .args .b) (x .pre .block .low) (x .pre .block .high) (x .args .at) (x .pre .inside) (length (x .args .out .now)) _ _ n a (x .args .out .now) _ (c .before .before .copy .ensures),
     )
 
 pub read-block-spec : {M : Type 1} → statement M

@@ -46,7 +46,7 @@ same-length c = search needs
 returns : tie.Need-returns
 returns c =
     let x = c .before .before .before .before .before .before .before .before .before .before in
-    block-stored (x .args .s) (x .args .node .now) (x .pre .0) (x .args .b) (x .pre .1 .0) (x .pre .1 .1) (x .args .words .now) _ _ (c .before .before .before .before .before .before .fewer .ensures) (c .before .before .before .before .before .block-at .ensures .is) _ (c .before .before .copy .ensures)
+    block-stored (x .args .s) (x .args .node .now) (x .pre .stretch) (x .args .b) (x .pre .low) (x .pre .high) (x .args .words .now) _ _ (c .before .before .before .before .before .before .fewer .ensures) (c .before .before .before .before .before .block-at .ensures .is) _ (c .before .before .copy .ensures)
 
 pub write-block-spec : {M : Type 1} → statement M
 write-block-spec =
