@@ -47,8 +47,8 @@ row-more p {row} {n} x r h =
       size = rw length-set (r .size);
       many = rw length-append (omega (arith, r .many));
       holds = λ j. same? j n
-        (λ e t. rw e (getD-set-same row n x 0 (omega (arith, r .size)) ∙ sym (getD-at p x [] 0 n (sym (r .many)))))
-        (λ e t. getD-set-other row n j x 0 e ∙ r .holds j ∙ sym (getD-snoc p x j (λ z. e (z ∙ sym (r .many)))));
+          (λ e t. rw e (getD-set-same row n x 0 (omega (arith, r .size)) ∙ sym (getD-at p x [] 0 n (sym (r .many)))))
+          (λ e t. getD-set-other row n j x 0 e ∙ r .holds j ∙ sym (getD-snoc p x j (λ z. e (z ∙ sym (r .many)))));
     }
 
 -- ---- a turn of `gather`

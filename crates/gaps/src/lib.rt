@@ -1,5 +1,6 @@
 // Closing the gaps of a task queue, and the append that closes them first.
-use queues::{Appended, Kind};
+use queues::Appended;
+use queues::Kind;
 use settings::Settings;
 ghost use mathlib.Core.Path.{_≡_};
 ghost use lib.ListN.{replicate};

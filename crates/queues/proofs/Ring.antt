@@ -73,9 +73,9 @@ module _ (k : Kind) (l : List ℕ) (q : ℕ) where
         count = sym n;
         fits = omega (arith, w .count);
         slots = λ i h. ⊎-elim
-          (λ m. w .rest i m h ∙ sym (List·getD-eq-default (contents k l q) 0 {n = i} (omega arith)))
-          (λ m. sym (getD-run 0 (items k l q) i m ∙ ap (itemAt k l q) (omega arith)))
-          (le-or-lt (items k l q) i);
+            (λ m. w .rest i m h ∙ sym (List·getD-eq-default (contents k l q) 0 {n = i} (omega arith)))
+            (λ m. sym (getD-run 0 (items k l q) i m ∙ ap (itemAt k l q) (omega arith)))
+            (le-or-lt (items k l q) i);
       }
 
   module _ {xs : List ℕ} (r : Ring k l q xs) where
@@ -112,9 +112,9 @@ module _ (k : Kind) (l : List ℕ) (q : ℕ) (xs : List ℕ) (r : Ring k l q xs)
         count = getD-set-other l a (q + 1) v 0 n₁ ∙ c;
         fits = r .fits;
         slots = λ i h.
-          let m = mod-lt (s + i) {m = k .slots} (omega arith) in
-          let n₂ : slotFrom k q s i ≢ a = λ z. ⊎-elim (λ g. omega arith) (λ t. ⊎-elim (λ g. omega arith) (λ g. omega arith) t) o in
-          rw e₀ (getD-set-other l a (slotFrom k q s i) v 0 n₂ ∙ r .slots i h);
+            let m = mod-lt (s + i) {m = k .slots} (omega arith) in
+            let n₂ : slotFrom k q s i ≢ a = λ z. ⊎-elim (λ g. omega arith) (λ t. ⊎-elim (λ g. omega arith) (λ g. omega arith) t) o in
+            rw e₀ (getD-set-other l a (slotFrom k q s i) v 0 n₂ ∙ r .slots i h);
       }
 
   -- the full count
@@ -137,8 +137,8 @@ module _ (k : Kind) (l : List ℕ) (q : ℕ) (xs : List ℕ) (r : Ring k l q xs)
         count = getD-set-other l a (q + 1) v 0 (λ e. omega arith) ∙ r .count ∙ sym (length-set xs i v);
         fits = rw length-set f;
         slots = λ j g. rw e₀ (same? j i
-          (λ e t. rw e (getD-set-same l a v 0 (omega arith) ∙ sym (getD-set-same xs i v 0 h)))
-          (λ e t. getD-set-other l a (slotFrom k q s j) v 0 (λ y. places-apart s j i (k .slots) g (omega arith) e (omega arith)) ∙ r .slots j g ∙ sym (getD-set-other xs i j v 0 e)));
+            (λ e t. rw e (getD-set-same l a v 0 (omega arith) ∙ sym (getD-set-same xs i v 0 h)))
+            (λ e t. getD-set-other l a (slotFrom k q s j) v 0 (λ y. places-apart s j i (k .slots) g (omega arith) e (omega arith)) ∙ r .slots j g ∙ sym (getD-set-other xs i j v 0 e)));
       }
 
   -- APPEND, where there is room
@@ -160,10 +160,10 @@ module _ (k : Kind) (l : List ℕ) (q : ℕ) (xs : List ℕ) (r : Ring k l q xs)
         count = getD-set-same l₁ (q + 1) (n + 1) 0 (rw length-set (omega arith)) ∙ sym (length-append xs (x ∷ []) ∙ ap (λ (j : ℕ). j + 1) (sym c));
         fits = rw (length-append xs (x ∷ [])) (omega arith);
         slots = λ i h. rw e₀
-          (getD-set-other l₁ (q + 1) (slotFrom k q s i) (n + 1) 0 (λ e. omega arith)
-          ∙ same? i n
-          (λ e t. rw e (getD-set-same l a x 0 (omega arith) ∙ sym (ap (λ (j : ℕ). getD (xs ++ x ∷ []) j 0) c ∙ getD-append-seam xs x [] 0)))
-          (λ e t. getD-set-other l a (slotFrom k q s i) x 0 (λ y. places-apart s i n (k .slots) h (omega arith) e (omega arith)) ∙ r .slots i h ∙ sym (getD-snoc xs x i (λ y. e (y ∙ sym c)))));
+            (getD-set-other l₁ (q + 1) (slotFrom k q s i) (n + 1) 0 (λ e. omega arith)
+            ∙ same? i n
+            (λ e t. rw e (getD-set-same l a x 0 (omega arith) ∙ sym (ap (λ (j : ℕ). getD (xs ++ x ∷ []) j 0) c ∙ getD-append-seam xs x [] 0)))
+            (λ e t. getD-set-other l a (slotFrom k q s i) x 0 (λ y. places-apart s i n (k .slots) h (omega arith) e (omega arith)) ∙ r .slots i h ∙ sym (getD-snoc xs x i (λ y. e (y ∙ sym c)))));
       }
 
   pub ring-room : (x : ℕ) → length xs < k .slots → appended k l q x ≡ added k l q x
@@ -210,17 +210,17 @@ module _ (k : Kind) (l : List ℕ) (q x : ℕ) (xs : List ℕ) (r : Ring k l q (
         count = getD-set-same l₂ (q + 1) (n - 1) 0 (simp length-set (omega arith)) ∙ omega arith;
         fits = omega arith;
         slots = λ i h. rw e₀
-          (getD-set-other l₂ (q + 1) (slotFrom k q t i) (n - 1) 0 (λ e. omega arith)
-          ∙ getD-set-other l₁ q (slotFrom k q t i) t 0 (λ e. omega arith)
-          ∙ ap (λ (j : ℕ). getD l₁ (q + (k .head + j)) 0) (mod-add-mod (s + 1) S i)
-          ∙ same? (i + 1) S
-          (λ e z.
-          let d : s + 1 + i ≡ s + S = omega arith in
-          let g : q + (k .head + (s + 1 + i) % S) ≡ a = rw (d, add-mod-right, add-zero) in
-          rw g (getD-set-same l a 0 0 (omega arith) ∙ sym (List·getD-eq-default xs 0 {n = i} (omega arith))))
-          (λ e z.
-          let d : s + 1 + i ≡ s + (i + 1) = omega arith in
-          rw d (getD-set-other l a (slotFrom k q s (i + 1)) 0 0 (λ y. places-apart s (i + 1) 0 S (omega arith) (omega arith) (λ u. omega arith) (omega arith))
-          ∙ r .slots (i + 1) (omega arith)
-          ∙ ap (λ (j : ℕ). getD (x ∷ xs) j 0) (add-one i))));
+            (getD-set-other l₂ (q + 1) (slotFrom k q t i) (n - 1) 0 (λ e. omega arith)
+            ∙ getD-set-other l₁ q (slotFrom k q t i) t 0 (λ e. omega arith)
+            ∙ ap (λ (j : ℕ). getD l₁ (q + (k .head + j)) 0) (mod-add-mod (s + 1) S i)
+            ∙ same? (i + 1) S
+            (λ e z.
+            let d : s + 1 + i ≡ s + S = omega arith in
+            let g : q + (k .head + (s + 1 + i) % S) ≡ a = rw (d, add-mod-right, add-zero) in
+            rw g (getD-set-same l a 0 0 (omega arith) ∙ sym (List·getD-eq-default xs 0 {n = i} (omega arith))))
+            (λ e z.
+            let d : s + 1 + i ≡ s + (i + 1) = omega arith in
+            rw d (getD-set-other l a (slotFrom k q s (i + 1)) 0 0 (λ y. places-apart s (i + 1) 0 S (omega arith) (omega arith) (λ u. omega arith) (omega arith))
+            ∙ r .slots (i + 1) (omega arith)
+            ∙ ap (λ (j : ℕ). getD (x ∷ xs) j 0) (add-one i))));
       }

@@ -30,21 +30,33 @@ pub enum Appended {
 pub fn send_kind(s: Settings) -> Kind
     ensures { λ r. ⌜ r ≡ sendKind s ⌝ }
 {
-    Kind { head: 3, slots: s.s, full: 2 }
+    Kind {
+        head: 3,
+        slots: s.s,
+        full: 2,
+    }
 }
 
 // The acknowledge queues' kind.
 pub fn ack_kind(s: Settings) -> Kind
     ensures { λ r. ⌜ r ≡ ackKind s ⌝ }
 {
-    Kind { head: 3, slots: s.a, full: 2 }
+    Kind {
+        head: 3,
+        slots: s.a,
+        full: 2,
+    }
 }
 
 // The task queues' kind.
 pub fn task_kind(s: Settings) -> Kind
     ensures { λ r. ⌜ r ≡ taskKind s ⌝ }
 {
-    Kind { head: 5, slots: s.t, full: 3 }
+    Kind {
+        head: 5,
+        slots: s.t,
+        full: 3,
+    }
 }
 
 // The word of slot i, counted from the slot that the queue starts with.

@@ -133,7 +133,8 @@ module _ (width : ℕ → ℕ) (l : List ℕ) (r : ℕ) where
     pub but-set : (v : ℕ) → But width l r (set m (start width r + i) v) (set p (0 + i) v)
     but-set v = record {
       rows = row-set width m r i v h
-        ∙ ap (λ (R : ℕ → List ℕ). put R r (set (R r) i v)) (b .rows)
-        ∙ put-put (row width l) r p (set (put (row width l) r p r) i v)
-        ∙ ap (λ (x : List ℕ). put (row width l) r (set x i v)) (put-same (row width l) r p)
-        ∙ ap (λ (n : ℕ). put (row width l) r (set p n v)) (sym (zero-add i)) }
+          ∙ ap (λ (R : ℕ → List ℕ). put R r (set (R r) i v)) (b .rows)
+          ∙ put-put (row width l) r p (set (put (row width l) r p r) i v)
+          ∙ ap (λ (x : List ℕ). put (row width l) r (set x i v)) (put-same (row width l) r p)
+          ∙ ap (λ (n : ℕ). put (row width l) r (set p n v)) (sym (zero-add i));
+    }
