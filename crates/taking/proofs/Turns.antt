@@ -1,12 +1,12 @@
 -- What a turn of each loop passes, and what the tests of `is_wanted` and `take` tell. Assumes nothing.
-use mathlib.Core.Path.{_≡_, refl, sym, ap, _∙_}
-use mathlib.Core.Bool.{Bool, true, false, cond}
-use mathlib.Core.List.{List, [], _∷_}
+use mathlib.Core.Path.{_≡_, refl, ap, _∙_}
+use mathlib.Core.Bool.{Bool, true, false}
+use mathlib.Core.List.{List}
 use Prim.Native.Nat.{ℕ, zero, suc, _+_, _-_, _≤_, _<_}
 use native.Mathlib.Nat.{add-zero}
 use native.Mathlib.Omega.{arith}
 use lib.Dec.{eqb, leb}
-use lib.ListN.{length, getD, set}
+use lib.ListN.{getD, set}
 use borrow.Author.Tests.{eq-eqb, ne-eqb, le-leb, lt-leb, leb-true, leb-false}
 use Rattle.words.proofs.Lists.{split}
 use Rattle.settings.specs.declared.Settings.{Settings}
@@ -15,9 +15,7 @@ use Rattle.queues.specs.declared.Kind.{Kind}
 use Rattle.queues.specs.Queue.{itemAt, slotAt, run, items, contents, taskKind}
 use Rattle.queues.specs.Moves.{dropped}
 use Rattle.queues.specs.Items.{gapFlag}
-use Rattle.taking.specs.declared.Seen.{Seen}
 use Rattle.taking.specs.declared.Seen.the-variants.{Here, Past, End}
-use Rattle.taking.specs.declared.Found.{Found}
 use Rattle.taking.specs.declared.Found.the-variants.{At, Nothing}
 use Rattle.taking.specs.Find.{from, wanted, seen, firstFrom}
 use Rattle.taking.specs.Take.{cleared, firstOut, out, flagged, takenOut}
