@@ -5,10 +5,12 @@ use Prim.Native.Nat.{ℕ}
 use Rattle.words.specs.Words.{more}
 use Rattle.settings.specs.declared.Settings.{Settings}
 use Rattle.queues.specs.declared.Kind.{Kind}
-use Rattle.queues.specs.Queue.{run, contents, sendKind, taskKind}
+use Rattle.queues.specs.Queue.{run, sendKind}
 use Rattle.queues.specs.Moves.{counted, added, appended, dropped}
 use Rattle.queues.specs.Items.{live, gapFlag}
 use Rattle.gaps.specs.Close.{laid, closed, cramped, roomy, taskAppended}
+use Rattle.taking.specs.declared.Found.the-variants.{At, Nothing}
+use Rattle.taking.specs.Find.{from, wanted, firstFrom}
 use Rattle.taking.specs.Take.{cleared, firstOut, out, flagged, takenOut}
 use Rattle.figures.specs.Table.{settings}
 
@@ -60,6 +62,11 @@ take i l = takenOut s l 0 i
 pub refused : append 11 task ≡ 2 ∷ 4 ∷ 0 ∷ 1 ∷ 0 ∷ 7 ∷ 9 ∷ 3 ∷ 5 ∷ []
 unfolding roomy cramped closed laid run live gapFlag appended added counted more
 refused = refl
+
+-- and at the greatest word the count stops
+pub stopped : append 11 (2 ∷ 4 ∷ 0 ∷ 4294967295 ∷ 0 ∷ 7 ∷ 9 ∷ 3 ∷ 5 ∷ []) ≡ 2 ∷ 4 ∷ 0 ∷ 4294967295 ∷ 0 ∷ 7 ∷ 9 ∷ 3 ∷ 5 ∷ []
+unfolding roomy cramped closed laid run live gapFlag appended added counted more
+stopped = refl
 
 -- ---- a gap at the second place: 3, 0, 7, 9
 abbrev second : List ℕ
@@ -120,3 +127,12 @@ one-dropped = refl
 pub one-appended : append 11 one ≡ 2 ∷ 2 ∷ 0 ∷ 0 ∷ 0 ∷ 0 ∷ 0 ∷ 3 ∷ 11 ∷ []
 unfolding roomy cramped closed laid run live gapFlag appended added counted more
 one-appended = refl
+
+-- ---- gaps are passed over: the first letter among 0, 0, 7, 9 stands at place 2, and among 0, 0 there is none
+pub found-past : firstFrom (wanted s [] 0) 0 (0 ∷ 0 ∷ 7 ∷ 9 ∷ []) ≡ At 2
+unfolding firstFrom wanted from
+found-past = refl
+
+pub found-none : firstFrom (wanted s [] 0) 0 (0 ∷ 0 ∷ []) ≡ Nothing
+unfolding firstFrom wanted from
+found-none = refl

@@ -1,28 +1,27 @@
 -- Closing gaps leaves the live items in their order, flag 0; so does the append that closes them first, and its item comes last. Assumes nothing.
-use mathlib.Core.Path.{_≡_, refl, sym, ap, _∙_}
-use mathlib.Core.Bool.{Bool, true, false, cond, _&&_}
-use mathlib.Core.Logic.{_⊎_, inl, inr, ⊎-elim}
+use mathlib.Core.Path.{_≡_, refl, ap, _∙_}
+use mathlib.Core.Bool.{cond}
+use mathlib.Core.Logic.{_⊎_, ⊎-elim}
 use mathlib.Core.List.{List, [], _∷_, _++_}
-use Prim.Native.Nat.{ℕ, zero, suc, _+_, _-_, _%_, _≤_, _<_}
+use Prim.Native.Nat.{ℕ, zero, suc, _+_, _-_, _≤_, _<_}
 use native.Mathlib.Nat.{mod-lt}
 use native.Mathlib.Omega.{arith}
 use lib.Dec.{eqb, ltb}
 use lib.ListN.{length, getD, set, length-set}
 use lib.Seq.{getD-set-same, getD-set-other}
 use borrow.Author.Tests.{eq-eqb, ne-eqb, lt-ltb, le-ltb}
-use Rattle.words.proofs.Lists.{same?, split, both, and-true, and-false, le-or-lt}
+use Rattle.words.proofs.Lists.{same?, both, and-false, le-or-lt}
 use Rattle.settings.specs.declared.Settings.{Settings}
 use Rattle.layout.specs.Places.{itemsWord, gapWord}
 use Rattle.queues.specs.declared.Kind.{Kind}
 use Rattle.queues.specs.declared.Appended.the-variants.{Done, Full}
-use Rattle.queues.specs.Queue.{start, items, slotFrom, slotAt, itemAt, contents, taskKind, Placed, Queue}
-use Rattle.queues.specs.Moves.{appended, appendAnswer, added, counted}
+use Rattle.queues.specs.Queue.{start, items, slotAt, contents, taskKind, Placed, Queue}
 use Rattle.queues.specs.Items.{live, gapFlag}
 use Rattle.queues.specs.Tasks.{TaskQueue}
 use Rattle.queues.proofs.Round.{places-apart}
-use Rattle.queues.proofs.Ring.{Ring, Off, ring-of, ring-queue, ring-contents, ring-off, ring-room, ring-full}
-use Rattle.queues.proofs.Items.{FirstLive, length-live, live-first, live-live, live-all, live-fewer, live-snoc, gap-live, gap-small}
-use Rattle.queues.proofs.Tasks.{TaskRing, task-of, task-queue, task-flagged, task-room, task-full}
+use Rattle.queues.proofs.Ring.{Ring, ring-of, ring-queue, ring-contents}
+use Rattle.queues.proofs.Items.{length-live, live-first, live-live, live-all, live-fewer, live-snoc, gap-live, gap-small}
+use Rattle.queues.proofs.Tasks.{TaskRing, task-queue, task-flagged, task-room, task-full}
 use Rattle.gaps.specs.Close.{laid, closed, cramped, roomy, taskAppended, taskAnswer}
 
 -- ---- what stands in the words after laying

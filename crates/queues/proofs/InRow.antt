@@ -1,7 +1,8 @@
--- A queue that is a row: each operation at the row's first word changes that row alone, into what the operation at word 0 makes of it. Assumes nothing.
+-- A queue that is a row: each operation at the row's first word changes that row alone, into what the operation at word 0 makes of it.
+-- From `but-none` on, a law's `.rows` says: row wide (op l q) ≡ put (row wide l) r (op (row wide l r) 0). Assumes nothing.
 use mathlib.Core.Path.{_≡_, refl, sym, ap, _∙_}
 use mathlib.Core.Bool.{Bool, true, false, cond}
-use mathlib.Core.List.{List, [], _∷_}
+use mathlib.Core.List.{List}
 use Prim.Native.Nat.{ℕ, zero, suc, _+_, _-_, _%_, _≤_, _<_}
 use native.Mathlib.Nat.{mod-lt, add-zero}
 use native.Mathlib.Omega.{arith}
@@ -9,16 +10,17 @@ use lib.Dec.{ltb}
 use lib.ListN.{length, getD, set}
 use Rattle.words.specs.Words.{more}
 use Rattle.words.specs.Rows as rows
-use Rattle.words.proofs.Lists.{put, split}
-use Rattle.words.proofs.Rows.{But, but-none, but-get, but-set, length-row}
+use Rattle.words.proofs.Rows.{But, but-get, but-set}
 use Rattle.settings.specs.declared.Settings.{Settings}
 use Rattle.settings.specs.Range.{InRange}
+use Rattle.layout.specs.Places.{gapWord}
 use Rattle.layout.specs.Rows.{width}
 use Rattle.layout.proofs.NodeRows.{width-send, width-ack, width-task}
 use Rattle.queues.specs.declared.Kind.{Kind}
-use Rattle.queues.specs.Queue.{start, items, slotFrom, slotAt, itemAt, run, contents, sendKind, ackKind, taskKind, Placed, Queue}
+use Rattle.queues.specs.Queue.{start, items, slotFrom, slotAt, itemAt, run, contents, sendKind, ackKind, taskKind}
 use Rattle.queues.specs.Moves.{counted, added, appended, appendAnswer, dropped}
 use Rattle.queues.proofs.Ring.{Ring}
+use Rattle.queues.proofs.Tasks.{TaskRing}
 
 -- a row of n words has room for a queue of the kind
 pub record Room (k : Kind) (n : ℕ) : Type 0 where
@@ -131,3 +133,21 @@ module _ (wide : ℕ → ℕ) (l : List ℕ) (r : ℕ) where
             fits = g .fits;
             slots = λ i h. sym (but-item b i) ∙ g .slots i h;
           }
+
+-- the same of a task queue
+module _ (wide : ℕ → ℕ) (l : List ℕ) (r : ℕ) (s : Settings) (w : Room (taskKind s) (wide r)) {m p : List ℕ} (b : But wide l r m p) (xs : List ℕ) where
+  pub task-up : rows.start wide r + wide r ≤ length m → TaskRing s p 0 xs → TaskRing s m (rows.start wide r) xs
+  task-up z t =
+      record {
+        ring = ring-up wide l r (taskKind s) w b xs z (t .ring);
+        first = t .first;
+        flag = but-word wide l r (taskKind s) w b gapWord (omega arith) ∙ t .flag;
+      }
+
+  pub task-down : length p ≡ wide r → TaskRing s m (rows.start wide r) xs → TaskRing s p 0 xs
+  task-down z t =
+      record {
+        ring = ring-down wide l r (taskKind s) w b xs z (t .ring);
+        first = t .first;
+        flag = sym (but-word wide l r (taskKind s) w b gapWord (omega arith)) ∙ t .flag;
+      }

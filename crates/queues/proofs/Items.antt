@@ -1,11 +1,10 @@
 -- Laws of the live items, of the gap flag and of taking an item out, on lists. Assumes nothing.
 use mathlib.Core.Path.{_≡_, refl, sym, ap, _∙_}
-use mathlib.Core.Bool.{Bool, true, false, cond}
 use mathlib.Core.List.{List, [], _∷_, _++_, append-nil}
 use Prim.Native.Nat.{ℕ, zero, suc, _+_, _≤_, _<_}
 use native.Mathlib.Omega.{arith}
 use lib.Dec.{eqb}
-use lib.ListN.{length, getD, set, take, drop, length-set}
+use lib.ListN.{length, getD, take, drop}
 use lib.Seq.{split-at, set-append-seam, length-take-le}
 use borrow.Author.Tests.{ne-eqb}
 use Rattle.words.proofs.Lists.{split, same?}

@@ -4,3 +4,4 @@ pub mod InRow
 pub mod Items
 pub mod Tasks
 pub mod Views
+pub mod Placing

@@ -1,18 +1,18 @@
 -- A task queue as the list of its items: the first is live and the flag is right; which stores keep that. Assumes nothing.
-use mathlib.Core.Path.{_≡_, refl, sym, ap, _∙_}
-use mathlib.Core.Logic.{_⊎_, inl, inr, ⊎-elim}
+use mathlib.Core.Path.{_≡_, sym, ap, _∙_}
+use mathlib.Core.Logic.{inl, inr}
 use mathlib.Core.List.{List, [], _∷_, _++_}
-use Prim.Native.Nat.{ℕ, zero, suc, _+_, _-_, _≤_, _<_}
+use Prim.Native.Nat.{ℕ, _+_, _-_, _≤_, _<_}
 use native.Mathlib.Omega.{arith}
-use lib.ListN.{length, getD, set, length-set}
+use lib.ListN.{length, getD, set}
 use lib.Seq.{getD-set-same, getD-set-other}
 use Rattle.words.specs.Words.{more}
 use Rattle.settings.specs.declared.Settings.{Settings}
-use Rattle.layout.specs.Places.{gapWord, emptyWord, taskFullWord}
+use Rattle.layout.specs.Places.{gapWord, taskFullWord}
 use Rattle.queues.specs.declared.Appended.the-variants.{Done, Full}
-use Rattle.queues.specs.Queue.{items, itemAt, slotAt, contents, taskKind, Queue}
-use Rattle.queues.specs.Moves.{counted, added, appended, appendAnswer, dropped}
-use Rattle.queues.specs.Items.{live, gapFlag, without}
+use Rattle.queues.specs.Queue.{contents, taskKind}
+use Rattle.queues.specs.Moves.{counted, added, appended, appendAnswer}
+use Rattle.queues.specs.Items.{gapFlag}
 use Rattle.queues.specs.Tasks.{TaskQueue}
 use Rattle.queues.proofs.Ring.{Ring, Off, ring-of, ring-queue, ring-contents, ring-off, ring-added, ring-room, ring-full, answer-room, answer-full}
 use Rattle.queues.proofs.Items.{FirstLive, gap-snoc}

@@ -1,17 +1,15 @@
 -- Every operation leaves a well-formed queue, and what it does to the list of items. Assumes nothing.
-use mathlib.Core.Path.{_≡_, refl, sym, ap, _∙_}
-use mathlib.Core.Logic.{⊎-elim, inl, inr}
+use mathlib.Core.Path.{_≡_, sym, ap, _∙_}
+use mathlib.Core.Logic.{⊎-elim}
 use mathlib.Core.List.{List, [], _∷_, _++_}
 use Prim.Native.Nat.{ℕ, suc, _+_, _-_, _%_, _≤_, _<_}
-use native.Mathlib.Nat.{mod-lt}
 use native.Mathlib.Omega.{arith}
 use lib.Dec.{ltb}
 use lib.ListN.{length, getD, set, length-set}
 use lib.Seq.{getD-set-other}
-use Rattle.words.specs.Words.{more}
 use Rattle.words.proofs.Lists.{le-or-lt, both}
 use Rattle.queues.specs.declared.Kind.{Kind}
-use Rattle.queues.specs.Queue.{start, items, slotFrom, slotAt, itemAt, run, contents, Queue}
+use Rattle.queues.specs.Queue.{start, items, slotAt, itemAt, run, contents, Queue}
 use Rattle.queues.specs.Moves.{counted, added, appended, dropped}
 use Rattle.queues.proofs.Ring.{Ring, Off, ring-of, ring-queue, ring-contents, length-run, ring-off, ring-set, ring-counted, ring-added, ring-room, ring-full, ring-dropped}
 

@@ -1,23 +1,21 @@
 -- Taking an item out leaves the other live items in their order, and a task queue that is well-formed. Assumes nothing.
-use mathlib.Core.Path.{_≡_, refl, sym, ap, _∙_}
-use mathlib.Core.Bool.{Bool, true, false, cond}
+use mathlib.Core.Path.{_≡_, ap, _∙_}
 use mathlib.Core.List.{List, [], _∷_, _++_}
-use Prim.Native.Nat.{ℕ, zero, suc, _+_, _-_, _≤_, _<_}
+use Prim.Native.Nat.{ℕ, zero, suc, _+_, _-_, _<_}
 use native.Mathlib.Omega.{arith}
-use lib.Dec.{eqb}
-use lib.ListN.{length, getD, set, take, drop}
-use borrow.Author.Tests.{eq-eqb, ne-eqb}
+use lib.ListN.{length, take, drop}
+use borrow.Author.Tests.{ne-eqb}
 use Rattle.words.proofs.Lists.{same?}
 use Rattle.settings.specs.declared.Settings.{Settings}
 use Rattle.queues.specs.declared.Kind.{Kind}
-use Rattle.queues.specs.Queue.{Queue, items, itemAt, slotAt, contents, taskKind}
+use Rattle.queues.specs.Queue.{Queue, contents, taskKind}
 use Rattle.queues.specs.Moves.{dropped}
-use Rattle.queues.specs.Items.{live, gapFlag, afterZeroes, without}
+use Rattle.queues.specs.Items.{live, afterZeroes, without}
 use Rattle.queues.specs.Tasks.{TaskQueue}
 use Rattle.queues.proofs.Ring.{Ring, ring-of, ring-queue, ring-contents, ring-first, ring-dropped, ring-set}
-use Rattle.queues.proofs.Items.{FirstLive, first-without, live-without-at}
+use Rattle.queues.proofs.Items.{first-without, live-without-at}
 use Rattle.queues.proofs.Views.{length-contents}
-use Rattle.queues.proofs.Tasks.{TaskRing, task-of, task-queue, task-flagged}
+use Rattle.queues.proofs.Tasks.{TaskRing, task-queue, task-flagged}
 use Rattle.taking.specs.Take.{cleared, firstOut, out, flagged, takenOut, Place}
 
 -- the zeroes at the front go

@@ -1,22 +1,23 @@
 -- What a turn of each loop passes, and what the tests of `is_wanted` and `take` tell. Assumes nothing.
-use mathlib.Core.Path.{_≡_, refl, sym, ap, _∙_}
-use mathlib.Core.Bool.{Bool, true, false, cond}
-use mathlib.Core.List.{List, [], _∷_}
+use mathlib.Core.Path.{_≡_, refl, ap, _∙_}
+use mathlib.Core.Bool.{Bool, true, false}
+use mathlib.Core.List.{List}
 use Prim.Native.Nat.{ℕ, zero, suc, _+_, _-_, _≤_, _<_}
 use native.Mathlib.Nat.{add-zero}
 use native.Mathlib.Omega.{arith}
-use lib.Dec.{eqb}
-use lib.ListN.{length, getD, set}
-use borrow.Author.Tests.{eq-eqb, ne-eqb}
+use lib.Dec.{eqb, leb}
+use lib.ListN.{getD, set}
+use borrow.Author.Tests.{eq-eqb, ne-eqb, le-leb, lt-leb, leb-true, leb-false}
+use Rattle.words.proofs.Lists.{split}
 use Rattle.settings.specs.declared.Settings.{Settings}
 use Rattle.layout.specs.Places.{blockAt, gapWord}
 use Rattle.queues.specs.declared.Kind.{Kind}
 use Rattle.queues.specs.Queue.{itemAt, slotAt, run, items, contents, taskKind}
 use Rattle.queues.specs.Moves.{dropped}
 use Rattle.queues.specs.Items.{gapFlag}
-use Rattle.taking.specs.declared.Found.{Found}
+use Rattle.taking.specs.declared.Seen.the-variants.{Here, Past, End}
 use Rattle.taking.specs.declared.Found.the-variants.{At, Nothing}
-use Rattle.taking.specs.Find.{wanted, firstFrom}
+use Rattle.taking.specs.Find.{from, wanted, seen, firstFrom}
 use Rattle.taking.specs.Take.{cleared, firstOut, out, flagged, takenOut}
 
 down : (n : ℕ) → 0 < n → n ≡ suc (n - 1)
@@ -86,14 +87,57 @@ taken-is s l q i e f g = rw (g, f, e)
 
 -- ---- the test
 module _ (s : Settings) (l : List ℕ) (source b : ℕ) where
-  pub wanted-gap : b ≡ 0 → false ≡ wanted s l source b
-  unfolding wanted
-  wanted-gap e = rw (eq-eqb b 0 e)
+  pub from-any : source ≡ 0 → true ≡ from s l source b
+  unfolding from
+  from-any e = rw (eq-eqb source 0 e)
 
-  pub wanted-any : (b ≡ 0 → ⊥) → source ≡ 0 → true ≡ wanted s l source b
-  unfolding wanted
-  wanted-any h e = rw (ne-eqb b 0 h, eq-eqb source 0 e)
+  pub from-one : (source ≡ 0 → ⊥) → (at : ℕ) → at ≡ blockAt s b → eqb (getD l at 0) source ≡ from s l source b
+  unfolding from
+  from-one g at e = rw (ne-eqb source 0 g, e, add-zero (blockAt s b))
 
-  pub wanted-from : (b ≡ 0 → ⊥) → (source ≡ 0 → ⊥) → (at : ℕ) → at ≡ blockAt s b → eqb (getD l at 0) source ≡ wanted s l source b
-  unfolding wanted
-  wanted-from h g at e = rw (ne-eqb b 0 h, ne-eqb source 0 g, e, add-zero (blockAt s b))
+-- ---- what is seen
+module _ (s : Settings) (l : List ℕ) (q source i : ℕ) where
+  pub seen-end : items (taskKind s) l q ≤ i → End ≡ seen s l q source i
+  unfolding seen
+  seen-end h = rw (le-leb (items (taskKind s) l q) i h)
+
+  module _ (h : i < items (taskKind s) l q) {b : ℕ} (e : b ≡ itemAt (taskKind s) l q i) where
+    pub seen-gap : b ≡ 0 → Past ≡ seen s l q source i
+    unfolding seen wanted
+    seen-gap z = rw (lt-leb (items (taskKind s) l q) i h, ← e, eq-eqb b 0 z)
+
+    pub seen-here : (b ≡ 0 → ⊥) → from s l source b ≡ true → Here ≡ seen s l q source i
+    unfolding seen wanted
+    seen-here z t = rw (lt-leb (items (taskKind s) l q) i h, ← e, ne-eqb b 0 z, t)
+
+    pub seen-other : (b ≡ 0 → ⊥) → from s l source b ≡ false → Past ≡ seen s l q source i
+    unfolding seen wanted
+    seen-other z t = rw (lt-leb (items (taskKind s) l q) i h, ← e, ne-eqb b 0 z, t)
+
+  -- what each answer tells
+  pub told-end : seen s l q source i ≡ End → items (taskKind s) l q ≤ i
+  unfolding seen
+  told-end e =
+      split (leb (items (taskKind s) l q) i)
+      (λ t. leb-true (items (taskKind s) l q) i t)
+      (λ t. split (wanted s l source (itemAt (taskKind s) l q i))
+      (λ u. absurd (let z : Here ≡ End = rw (t, u) at e in let y : _≡_ {A = ℕ} 0 1 = cc in omega arith))
+      (λ u. absurd (let z : Past ≡ End = rw (t, u) at e in let y : _≡_ {A = ℕ} 0 1 = cc in omega arith)))
+
+  pub told-here : seen s l q source i ≡ Here → (i < items (taskKind s) l q) × (wanted s l source (itemAt (taskKind s) l q i) ≡ true)
+  unfolding seen
+  told-here e =
+      split (leb (items (taskKind s) l q) i)
+      (λ t. absurd (let z : End ≡ Here = rw t at e in let y : _≡_ {A = ℕ} 0 1 = cc in omega arith))
+      (λ t. split (wanted s l source (itemAt (taskKind s) l q i))
+      (λ u. (leb-false (items (taskKind s) l q) i t, u))
+      (λ u. absurd (let z : Past ≡ Here = rw (t, u) at e in let y : _≡_ {A = ℕ} 0 1 = cc in omega arith)))
+
+  pub told-past : seen s l q source i ≡ Past → (i < items (taskKind s) l q) × (wanted s l source (itemAt (taskKind s) l q i) ≡ false)
+  unfolding seen
+  told-past e =
+      split (leb (items (taskKind s) l q) i)
+      (λ t. absurd (let z : End ≡ Past = rw t at e in let y : _≡_ {A = ℕ} 0 1 = cc in omega arith))
+      (λ t. split (wanted s l source (itemAt (taskKind s) l q i))
+      (λ u. absurd (let z : Here ≡ Past = rw (t, u) at e in let y : _≡_ {A = ℕ} 0 1 = cc in omega arith))
+      (λ u. (leb-false (items (taskKind s) l q) i t, u)))

@@ -6,7 +6,7 @@ ghost use Prim.Native.Nat.{_≤_, _<_};
 ghost use Rattle.layout.specs.Asked.{Stretch};
 ghost use Rattle.queues.specs.Queue.{Queue, items, contents, taskKind};
 ghost use Rattle.queues.specs.Items.{gapFlag};
-ghost use Rattle.taking.specs.Find.{wanted, found, Findable};
+ghost use Rattle.taking.specs.Find.{from, seen, found, Findable};
 ghost use Rattle.taking.specs.Take.{cleared, out, takenOut, Place};
 
 pub enum Found {
@@ -14,15 +14,19 @@ pub enum Found {
     Nothing,
 }
 
-// Whether item b is a letter from the source; source 0 asks for any letter.
-fn is_wanted(node: &[u32], s: Settings, source: u32, b: u32) -> bool
+// What stands at a place: the wanted letter, something to pass over, or the queue's end.
+pub enum Seen {
+    Here,
+    Past,
+    End,
+}
+
+// Whether the letter that block b begins is from the source; source 0 stands for any.
+fn is_from(node: &[u32], s: Settings, source: u32, b: u32) -> bool
     requires { ⌜ Stretch s (now node) ⌝ }
-    requires { ⌜ b ≤ s .m ⌝ }
-    ensures { λ r. ⌜ r ≡ wanted s (now (node .entry)) source b ⌝ }
+    requires { ⌜ (1 ≤ b) × (b ≤ s .m) ⌝ }
+    ensures { λ r. ⌜ r ≡ from s (now (node .entry)) source b ⌝ }
 {
-    if b == 0 {
-        return false;
-    }
     if source == 0 {
         return true;
     }
@@ -30,22 +34,41 @@ fn is_wanted(node: &[u32], s: Settings, source: u32, b: u32) -> bool
     node[at] == source
 }
 
-// The place of the first letter from the source; gaps are passed over.
+// What stands at place i: a gap is passed over, and is not the end.
+fn look(node: &[u32], s: Settings, q: usize, source: u32, i: usize) -> Seen
+    requires { ⌜ Findable s (now node) q ⌝ }
+    ensures { λ r. ⌜ r ≡ seen s (now (node .entry)) q source i ⌝ }
+{
+    let k = queues::task_kind(s);
+    let items = queues::items_of(node, k, q);
+    if items <= i {
+        return Seen::End;
+    }
+    let b = queues::item(node, k, q, i);
+    if b == 0 {
+        return Seen::Past;
+    }
+    if is_from(node, s, source, b) {
+        return Seen::Here;
+    }
+    Seen::Past
+}
+
+// The place of the first letter from the source.
 pub fn find(node: &[u32], s: Settings, q: usize, source: u32) -> Found
     requires { ⌜ Findable s (now node) q ⌝ }
     ensures { λ r. ⌜ r ≡ found s (now (node .entry)) q source ⌝ }
 {
-    let k = queues::task_kind(s);
-    let items = queues::items_of(node, k, q);
     let mut i: usize = 0;
-    while i < items {
-        let b = queues::item(node, k, q, i);
-        if is_wanted(node, s, source, b) {
-            return Found::At(i);
+    loop {
+        let there = look(node, s, q, source, i);
+        match there {
+            Seen::Here => return Found::At(i),
+            Seen::End => return Found::Nothing,
+            Seen::Past => {}
         }
         i += 1;
     }
-    Found::Nothing
 }
 
 // Drops the zeroes at the front.
