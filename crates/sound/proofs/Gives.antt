@@ -26,6 +26,7 @@ use Rattle.blocks.proofs.Rows.{within-in}
 use Rattle.queues.specs.Queue.{sendKind, ackKind, taskKind, items, itemAt, contents, Queue}
 use Rattle.queues.specs.Items.{gapFlag}
 use Rattle.queues.specs.Tasks.{TaskQueue}
+use Rattle.queues.proofs.Placing.{placed-send, placed-ack, placed-task}
 use Rattle.queues.proofs.Views.{length-contents, contents-item}
 use Rattle.sound.specs.Reading.{settingsIn, turnIn, tableIn, sendItems, ackItems, taskItems}
 use Rattle.sound.specs.Queues.{inShape, isBlock, noneToItself, noneUnbound, firstLive, rightSend, rightAck, rightTask, rightQueues}
@@ -33,7 +34,7 @@ use Rattle.sound.specs.Letters.{chainFrom, endsWell, rightLetter}
 use Rattle.sound.specs.Positions.{rightPosition}
 use Rattle.sound.specs.Blocks.{begun, standing, visits, eachOnce, rightLetters}
 use Rattle.sound.specs.Sound.{rightSize, sound}
-use Rattle.sound.proofs.Shapes.{shape-queue, placed-send, placed-ack, placed-task}
+use Rattle.sound.proofs.Shapes.{shape-queue}
 
 -- each number passes the test of a block, so each is one
 pub all-within : (m : ℕ) (l : List ℕ) → all (λ x. leb 1 x && leb x m) l ≡ true → Within m l

@@ -1,2 +1,4 @@
 pub mod Shapes
 pub mod Gives
+pub mod Right
+pub mod Held
