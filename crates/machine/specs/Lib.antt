@@ -1,0 +1,4 @@
+pub mod Machine
+pub mod Spelled
+pub mod Core
+pub mod Represents
