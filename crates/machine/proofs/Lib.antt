@@ -1,2 +1,4 @@
 pub mod Letters
 pub mod Places
+pub mod Facts
+pub mod Spelled
