@@ -40,7 +40,7 @@ use Rattle.sound.specs.Sound.{sound}
 use Rattle.machine.specs.Machine.{Letter, gap, first, firsts, Live, wordsOf, Node, Machine, All, many}
 use Rattle.machine.specs.Spelled.{letterFrom, shown, nodeFrom, machineOf}
 use Rattle.machine.specs.Core.{rowsOf, seat, line, kind, Held, Core}
-use Rattle.machine.specs.Represents.{Right, RightPosition, WellFormed, Shows, Represents}
+use Rattle.machine.specs.Represents.{Right, RightPosition, WellFormed, Shows, RepresentsAt, Represents}
 use Rattle.machine.proofs.Letters.{length-firsts}
 use Rattle.machine.proofs.Places.{at-place, seat-send, line-send, seat-ack, line-ack, seat-task, line-task, kind-send, kind-ack, kind-task, row-ring, row-word, shown-hand, shown-transit, shown-send, shown-ack, shown-task, begun-low, begun-task}
 use Rattle.machine.proofs.Facts.{Facts, facts-sound}
@@ -398,7 +398,7 @@ module _ (s : Settings) (memory : List ℕ) (M : Machine) (size : length memory 
         (λ q′ e′. rw (e′, held-back q′ .0, held-back q′ .1) (copy-back q′))
         (λ q′ e′. rw (e′, shows .hand j h, p .hand q′))))
 
-  facts-back : rightTable (tableIn memory) ≡ true → Facts s memory
+  pub facts-back : rightTable (tableIn memory) ≡ true → Facts s memory
   facts-back table =
       record {
         range = w;
@@ -416,6 +416,10 @@ module _ (s : Settings) (memory : List ℕ) (M : Machine) (size : length memory 
 pub represents-sound : (memory : List ℕ) (m : Machine) → Represents memory m → sound memory ≡ true
 represents-sound memory m e =
     facts-sound memory (facts-back (settingsIn memory) memory m (e .size) (e .core) (e .shows) (e .formed) (e .table))
+
+-- the same with settings that are those that stand in the memory
+pub represents-sound-at : (s : Settings) (memory : List ℕ) (m : Machine) → settingsIn memory ≡ s → RepresentsAt s memory m → sound memory ≡ true
+represents-sound-at s memory m q e = represents-sound memory m (subst (λ (x : Settings). RepresentsAt x memory m) (sym q) e)
 
 -- THE MACHINE IS DETERMINED: what a memory represents is what it spells
 module _ (memory : List ℕ) (m : Machine) (e : Represents memory m) where

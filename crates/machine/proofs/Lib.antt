@@ -5,3 +5,4 @@ pub mod Spelled
 pub mod Counts
 pub mod Sound
 pub mod Back
+pub mod Fresh

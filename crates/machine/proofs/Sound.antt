@@ -36,7 +36,7 @@ use Rattle.sound.specs.Sound.{sound}
 use Rattle.machine.specs.Machine.{Letter, gap, first, firsts, Live, wordsOf, Node, Machine, All, many}
 use Rattle.machine.specs.Spelled.{letterFrom, shown, nodeFrom, machineOf}
 use Rattle.machine.specs.Core.{rowsOf, seat, line, kind, Held, Core}
-use Rattle.machine.specs.Represents.{Right, RightPosition, WellFormed, Shows, Represents}
+use Rattle.machine.specs.Represents.{Right, RightPosition, WellFormed, Shows, RepresentsAt, Represents}
 use Rattle.machine.proofs.Places.{at-place, seat-send, line-send, seat-ack, line-ack, seat-task, line-task, kind-send, kind-ack, kind-task, ring-row, row-word, shown-hand, shown-transit, shown-send, shown-ack, shown-task, begun-low, begun-task}
 use Rattle.machine.proofs.Facts.{Facts, sound-facts}
 use Rattle.machine.proofs.Counts.{sum-none, empty, gap-held, lettersAt, count-visits}

@@ -2,3 +2,4 @@ pub mod Machine
 pub mod Spelled
 pub mod Core
 pub mod Represents
+pub mod Fresh

@@ -57,9 +57,14 @@ pub record Shows (s : Settings) (memory : List ℕ) (m : Machine) : Type 0 where
   pub hand : (j : ℕ) → j < 6 → heldOf memory j ≡ getD (firsts (m .node j .letters 0)) 0 0
   pub flags : (i q : ℕ) → i < 6 → q < 64 → getD (rowsOf s memory i (13 + q)) gapWord 0 ≡ gapFlag (firsts (m .node i .letters (13 + q)))
 
-pub record Represents (memory : List ℕ) (m : Machine) : Type 0 where
-  pub size : length memory ≡ memorySize (settingsIn memory)
+-- with settings s
+pub record RepresentsAt (s : Settings) (memory : List ℕ) (m : Machine) : Type 0 where
+  pub size : length memory ≡ memorySize s
   pub table : rightTable (tableIn memory) ≡ true
-  pub core : Core (settingsIn memory) (rowsOf (settingsIn memory) memory) (m .node)
-  pub shows : Shows (settingsIn memory) memory m
+  pub core : Core s (rowsOf s memory) (m .node)
+  pub shows : Shows s memory m
   pub formed : WellFormed (tableIn memory) m
+
+-- with the settings that stand in it
+abbrev pub Represents : List ℕ → Machine → Type 0
+Represents memory m = RepresentsAt (settingsIn memory) memory m
