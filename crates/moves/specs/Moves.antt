@@ -1,10 +1,11 @@
 -- What a move makes of rows and nodes: one row put anew; letters between a place and the transit place; blocks between the free list and it.
 use mathlib.Core.List.{List, [], _∷_}
 use mathlib.Core.Bool.{cond}
-use Prim.Native.Nat.{ℕ}
+use Prim.Native.Nat.{ℕ, zero, suc}
 use lib.Dec.{eqb}
+use lib.ListN.{set}
 use Rattle.words.proofs.Lists.{put}
-use Rattle.machine.specs.Machine.{Letter, first, Node, transit}
+use Rattle.machine.specs.Machine.{Letter, gap, first, Node, transit}
 
 -- row q of node j put anew
 unfoldable pub putRow : (ℕ → ℕ → List ℕ) → ℕ → ℕ → List ℕ → ℕ → ℕ → List ℕ
@@ -27,3 +28,9 @@ liveOnes (L ∷ ls) = cond (eqb (first L) 0) (liveOnes ls) (L ∷ liveOnes ls)
 unfoldable pub afterGaps : List Letter → List Letter
 afterGaps [] = []
 afterGaps (L ∷ ls) = cond (eqb (first L) 0) (afterGaps ls) (L ∷ ls)
+
+-- the letter at place i of a task queue taken out: the first with the gaps directly behind it, one further in leaves a gap
+unfoldable pub lettersWithout : ℕ → List Letter → List Letter
+lettersWithout i [] = []
+lettersWithout zero (L ∷ ls) = afterGaps ls
+lettersWithout (suc i) (L ∷ ls) = L ∷ set ls i gap
