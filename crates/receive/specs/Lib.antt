@@ -1,2 +1,3 @@
 pub mod Take
 pub mod Outcome
+pub mod Asked

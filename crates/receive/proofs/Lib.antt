@@ -1,0 +1,5 @@
+pub mod Bodies
+pub mod Chains
+pub mod Outcomes
+pub mod Seats
+pub mod Sounds
