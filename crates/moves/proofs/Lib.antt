@@ -3,3 +3,4 @@ pub mod Core
 pub mod Chains
 pub mod Items
 pub mod Queues
+pub mod Memory
