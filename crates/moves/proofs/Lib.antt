@@ -4,3 +4,4 @@ pub mod Chains
 pub mod Items
 pub mod Queues
 pub mod Memory
+pub mod Words
