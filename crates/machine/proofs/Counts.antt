@@ -72,4 +72,3 @@ module _ (s : Settings) (memory : List ℕ) (i : ℕ) where
       let z : many x (lettersAt s memory i 77) ≡ 0 = ap (λ (xs : List ℕ). many x (map (letterFrom s l) xs)) (shown-transit s memory i) in
       occurs-append x fr (standing s memory i 77)
       ∙ omega (arith, count-standing x 77 (omega arith), sum-last 77 (λ p. many x (lettersAt s memory i p)))
-

@@ -92,10 +92,10 @@ module _ (s : Settings) (R : ℕ → ℕ → List ℕ) (N : ℕ → Node) (core 
     most : (b : ℕ) → occurs b (L .chain) + occurs b (N i .free) ≤ occurs b (downFrom (s .m))
     most b = omega (arith, core .once i b h, ap (many b) one, sum-le 78 (λ k. many b (N i .letters k)) 77 (omega arith))
 
-    held-one : Held s (R i) L
+    pub held-one : Held s (R i) L
     held-one = let a : All (Held s (R i)) (L ∷ []) = rw one at (core .letters i 77 h (omega arith)) in a .0
 
-    in-chain : (b : ℕ) → 1 ≤ occurs b (L .chain) → (1 ≤ b) × (b ≤ s .m)
+    pub in-chain : (b : ℕ) → 1 ≤ occurs b (L .chain) → (1 ≤ b) × (b ≤ s .m)
     in-chain b o = down-range (s .m) b (omega (arith, most b))
 
     -- ---- WRITE
@@ -116,12 +116,14 @@ module _ (s : Settings) (R : ℕ → ℕ → List ℕ) (N : ℕ → Node) (core 
           let k : b ≡ x = omega arith in
           let u : occurs x (N i .free) + many x (N i .letters 77) ≡ 0 = rw (← k) z in
           omega (arith, ap (many x) one)))
-          (rw e (fill-leads (s .b) (R i) (L .chain) ws (firstIn (R i)) (N i .free) 0 (core .free i h)))
-          (record {
-            leads = fill-leads (s .b) (R i) (L .chain) ws (first L) (L .chain) 0 (held-one .leads);
-            reads = fill-read (s .b) (R i) (L .chain) ws (λ b. omega (arith, most b, down-once (s .m) b)) size-l (rw need (needs-enough s (core .range) (length ws)));
-            blocks = need;
-          }, tt)
+          (rw e (fill-leads (s .b) (R i) (L .chain) ws (firstIn (R i)) (N i .free) 0 (core .free i h))) (
+            record {
+              leads = fill-leads (s .b) (R i) (L .chain) ws (first L) (L .chain) 0 (held-one .leads);
+              reads = fill-read (s .b) (R i) (L .chain) ws (λ b. omega (arith, most b, down-once (s .m) b)) size-l (rw need (needs-enough s (core .range) (length ws)));
+              blocks = need;
+            },
+            tt,
+          )
           (λ b. omega (arith, ap (many b) one))
 
     -- ---- GIVE BACK

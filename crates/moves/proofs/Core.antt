@@ -2,6 +2,7 @@
 --     queue-put, word-put     every move of a queue, of any kind and on any node
 --     chain-change     every move of blocks
 --     pass-keeps     between the hand and the transit place: no row shows it
+--     head-put     the room count
 use mathlib.Core.Path.{_≡_, refl, sym, ap, _∙_}
 use mathlib.Core.List.{List, [], _∷_, _++_}
 use Prim.Native.Nat.{ℕ, zero, suc, _+_, _-_, _≤_, _<_}
@@ -20,7 +21,7 @@ use Rattle.machine.specs.Core.{seat, line, kind, Held, Core}
 use Rattle.machine.proofs.Letters.{all-same}
 use Rattle.machine.proofs.Places.{seat-in, line-in}
 use Rattle.moves.specs.Moves.{putRow, moved, freed}
-use Rattle.moves.proofs.Rows.{row-same, row-other, row-apart, row-long, place-one, moved-at, moved-transit, moved-other, freed-transit, freed-other, put-none, moved-none}
+use Rattle.moves.proofs.Rows.{row-same, row-other, row-apart, row-long, place-one, moved-at, moved-transit, moved-other, freed-transit, freed-other, put-none, moved-none, freed-none}
 
 -- how often block b stands in a node
 abbrev total : ℕ → Node → ℕ
@@ -225,3 +226,25 @@ module _ (s : Settings) (R : ℕ → ℕ → List ℕ) (N : ℕ → Node) (core 
               (λ e t. rw t (total-freed b (N i) fr hs (count b) ∙ core .once i b h))
               (λ e t. rw t (core .once k b a));
         }
+
+  -- ---- H: THE FIRST ROW ANEW, its first free block as it was: the room count
+  module _ (i : ℕ) (h : i < 6) (w : List ℕ) (long : length w ≡ length (R i 0)) (same : getD w 0 0 ≡ getD (R i 0) 0 0) where
+    abbrev H : ℕ → List ℕ
+    H = put (R i) 0 w
+
+    block-h : (b : ℕ) → H (76 + b) ≡ R i (76 + b)
+    block-h b = put-other (R i) 0 w (76 + b) (λ e. omega arith)
+
+    pub head-put : Core s (putRow R i 0 w) N
+    unfolding putRow Same
+    head-put =
+        let f : firstIn H ≡ firstIn (R i) = ap (λ (l : List ℕ). getD l 0 0) (put-same (R i) 0 w) ∙ same in
+        let c = chain-change i h H (N i .free) (N i .letters 77)
+        (λ r. same? r 0 (λ e t. rw (t, e) long) (λ e t. rw t))
+        (λ r a b. put-other (R i) 0 w r (λ e. omega arith))
+        (λ b a z. block-h b)
+        (rw f (leads-same (s .b) (R i) H (firstIn (R i)) (N i .free) 0 (λ b o. block-h b) (core .free i h)))
+        (all-same s (R i) H (N i .letters 77) (λ b o. block-h b) (core .letters i 77 h (omega arith)))
+        (λ b. refl) in
+        let e : put N i (freed (N i) (N i .free) (N i .letters 77)) ≡ N = ap (put N i) (freed-none (N i)) ∙ put-none N i in
+        rw e at c

@@ -3,3 +3,5 @@ pub mod Core
 pub mod Chains
 pub mod Items
 pub mod Queues
+pub mod Memory
+pub mod Words

@@ -82,6 +82,13 @@ length-roomy : (s : Settings) (l : List ℕ) (q : ℕ) → length (roomy s l q) 
 unfolding roomy
 length-roomy s l q = both (λ (m : List ℕ). length m ≡ length l) (cramped s l q) (closed s l q) l (length-closed s l q) refl
 
+pub length-task-appended : (s : Settings) (l : List ℕ) (q x : ℕ) → length (taskAppended s l q x) ≡ length l
+length-task-appended s l q x = length-appended (taskKind s) (roomy s l q) q x ∙ length-roomy s l q
+
+pub length-counted : (l : List ℕ) (a : ℕ) → length (counted l a) ≡ length l
+unfolding counted
+length-counted l a = length-set l a _
+
 length-cleared : (k : Kind) (q n : ℕ) (l : List ℕ) → length (cleared k q n l) ≡ length l
 unfolding cleared
 length-cleared k q zero l = refl
@@ -124,9 +131,6 @@ module _ (s : Settings) (R : ℕ → ℕ → List ℕ) (N : ℕ → Node) (core 
   no-zero : many 0 ls ≡ 0
   no-zero = omega (arith, many-most s R N core i (13 + q) 0 h (omega arith), down-zero (s .m))
 
-  long-appended : (x : ℕ) → length (taskAppended s v 0 x) ≡ length v
-  long-appended x = length-appended (taskKind s) (roomy s v 0) 0 x ∙ length-roomy s v 0
-
   module _ (t : TaskRing s (R i (13 + q)) 0 (firsts (N i .letters (13 + q)))) where
     -- ---- the letter on its way is appended
     module _ (L : Letter) (one : N i .letters 77 ≡ L ∷ []) (some : first L ≡ 0 → ⊥) where
@@ -140,7 +144,7 @@ module _ (s : Settings) (R : ℕ → ℕ → List ℕ) (N : ℕ → Node) (core 
 
         pub task-append : Core s (putRow R i (13 + q) (taskAppended s (R i (13 + q)) 0 (first L))) (put N i (moved (N i) (13 + q) (N i .letters (13 + q) ++ L ∷ []) []))
         task-append =
-            task-put (taskAppended s v 0 (first L)) (ls ++ L ∷ []) [] (long-appended (first L)) (task-append-flag .ring)
+            task-put (taskAppended s v 0 (first L)) (ls ++ L ∷ []) [] (length-task-appended s v 0 (first L)) (task-append-flag .ring)
             (all-append (Held s (R i)) ls (L ∷ []) (core .letters i (13 + q) h (omega arith)) on-way) tt
             (λ b. omega (arith, many-append b ls (L ∷ []), ap (many b) one))
 
@@ -151,7 +155,7 @@ module _ (s : Settings) (R : ℕ → ℕ → List ℕ) (N : ℕ → Node) (core 
 
         pub task-append-gap : Core s (putRow R i (13 + q) (taskAppended s (R i (13 + q)) 0 (first L))) (put N i (moved (N i) (13 + q) (liveOnes (N i .letters (13 + q)) ++ L ∷ []) []))
         task-append-gap =
-            task-put (taskAppended s v 0 (first L)) (liveOnes ls ++ L ∷ []) [] (long-appended (first L)) (task-append-gap-flag .ring)
+            task-put (taskAppended s v 0 (first L)) (liveOnes ls ++ L ∷ []) [] (length-task-appended s v 0 (first L)) (task-append-gap-flag .ring)
             (all-append (Held s (R i)) (liveOnes ls) (L ∷ []) (all-live (Held s (R i)) ls (core .letters i (13 + q) h (omega arith))) on-way) tt
             (λ b. omega (arith, many-append b (liveOnes ls) (L ∷ []), many-live b ls no-zero, ap (many b) one))
 
@@ -161,7 +165,7 @@ module _ (s : Settings) (R : ℕ → ℕ → List ℕ) (N : ℕ → Node) (core 
       task-full-flag = append-full s v 0 (firsts ls) t x (length-firsts ls ∙ full) gaps .0
 
       pub task-full : Core s (putRow R i (13 + q) (taskAppended s (R i (13 + q)) 0 x)) N
-      task-full = task-word (taskAppended s v 0 x) (long-appended x) (task-full-flag .ring)
+      task-full = task-word (taskAppended s v 0 x) (length-task-appended s v 0 x) (task-full-flag .ring)
 
     -- ---- the letter at place n is taken out and goes on its way
     module _ (n : ℕ) (is : n < length (N i .letters (13 + q))) (none : N i .letters 77 ≡ []) where
@@ -182,5 +186,4 @@ module _ (s : Settings) (R : ℕ → ℕ → List ℕ) (N : ℕ → Node) (core 
     task-empty-flag = task-counted s v 0 (firsts ls) t 4 (omega arith) (omega arith)
 
     pub task-empty : Core s (putRow R i (13 + q) (counted (R i (13 + q)) 4)) N
-    unfolding counted
-    task-empty = task-word (counted v 4) (length-set v 4 _) (task-empty-flag .ring)
+    task-empty = task-word (counted v 4) (length-counted v 4) (task-empty-flag .ring)

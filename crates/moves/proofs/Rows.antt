@@ -93,3 +93,7 @@ unfolding moved
 moved-none N p ne =
     ap (λ (g : ℕ → List Letter). record { free = N .free; letters = g })
     (ap (λ (g : ℕ → List Letter). put g 77 (N .letters 77)) (put-none (N .letters) p) ∙ put-none (N .letters) 77)
+
+pub freed-none : (N : Node) → freed N (N .free) (N .letters 77) ≡ N
+unfolding freed
+freed-none N = ap (λ (g : ℕ → List Letter). record { free = N .free; letters = g }) (put-none (N .letters) 77)

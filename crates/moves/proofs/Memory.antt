@@ -1,0 +1,84 @@
+-- A node's stretch put anew in a memory: its rows, its words before the stretches, its length. Assumes nothing.
+--     rows-with     the rows of that node are the new stretch's, and no other row changes
+--     row-with     a stretch that differs in one row
+--     with-long, with-word, with-settings, with-table     length, and words before the stretches, stay
+use mathlib.Core.Path.{_≡_, refl, sym, ap, ap₂, _∙_, fun-ext}
+use mathlib.Core.List.{List}
+use Prim.Native.Nat.{ℕ, zero, suc, _+_, _-_, _*_, _≤_, _<_}
+use native.Mathlib.Omega.{arith}
+use lib.ListN.{length, getD, take, drop}
+use lib.Seq.{getD-take}
+use Rattle.words.specs.Words.{part, splice}
+use Rattle.words.specs.Rows.{start, row}
+use Rattle.words.proofs.Lists.{put, put-same, put-other, same?}
+use Rattle.words.proofs.Parts.{length-splice, take-splice, part-before}
+use Rattle.words.proofs.Rows.{But, row-splice}
+use Rattle.settings.specs.declared.Settings.{Settings}
+use Rattle.settings.specs.Made.{settingsOf}
+use Rattle.layout.specs.Places.{nodeSize, nodeAt, nodeEnd, memorySize, node, withNode}
+use Rattle.layout.specs.Rows.{width, memoryWidth}
+use Rattle.layout.specs.Asked.{Sized}
+use Rattle.layout.proofs.MemoryRows.{stretch-fits, start-stretch, width-stretch}
+use Rattle.blocks.proofs.Rows.{rows}
+use Rattle.sound.specs.Reading.{settingsIn, tableIn}
+use Rattle.machine.specs.Core.{rowsOf}
+use Rattle.moves.specs.Moves.{putRow}
+
+-- a node's stretch is a row of the memory
+pub node-row : (s : Settings) (memory : List ℕ) (k : ℕ) → node s memory k ≡ row (memoryWidth s) memory (9 + k)
+unfolding row
+node-row s memory k =
+    let d : nodeEnd s k - nodeAt s k ≡ nodeSize s = omega arith in
+    rw (d, start-stretch s k, width-stretch s k)
+
+module _ (s : Settings) (memory : List ℕ) (size : length memory ≡ memorySize s) (j : ℕ) (h : j < 6) (l : List ℕ) (long : length l ≡ nodeSize s) where
+  inside : nodeEnd s j ≤ length memory
+  inside = rw size (stretch-fits s j h)
+
+  fits : length l ≡ nodeEnd s j - nodeAt s j
+  fits = omega arith
+
+  with-rows : row (memoryWidth s) (withNode s memory j l) ≡ put (row (memoryWidth s) memory) (9 + j) l
+  with-rows =
+      ap₂ (λ (a w : ℕ). row (memoryWidth s) (splice memory a (a + w) l)) (sym (start-stretch s j)) (sym (width-stretch s j))
+      ∙ row-splice (memoryWidth s) memory (9 + j) l (rw (start-stretch s j, width-stretch s j) inside) (rw (width-stretch s j) long)
+
+  pub with-node : (k : ℕ) → node s (withNode s memory j l) k ≡ put (node s memory) j l k
+  with-node k =
+      node-row s (withNode s memory j l) k
+      ∙ ap (λ (f : ℕ → List ℕ). f (9 + k)) with-rows
+      ∙ same? k j
+      (λ e t. rw (e, put-same (row (memoryWidth s) memory) (9 + j) l, put-same (node s memory) j l))
+      (λ e t. put-other (row (memoryWidth s) memory) (9 + j) l (9 + k) (λ z. e (omega arith)) ∙ sym (node-row s memory k) ∙ sym (put-other (node s memory) j l k e))
+
+  pub rows-with : rowsOf s (withNode s memory j l) ≡ put (rowsOf s memory) j (rows s l)
+  rows-with =
+      fun-ext (λ k.
+      ap (rows s) (with-node k) ∙ same? k j (λ e t. rw t) (λ e t. rw t))
+
+  pub row-with : (r : ℕ) (w : List ℕ) → But (width s) (node s memory j) r l w → rowsOf s (withNode s memory j l) ≡ putRow (rowsOf s memory) j r w
+  unfolding putRow
+  row-with r w b = rows-with ∙ ap (put (rowsOf s memory) j) (b .rows)
+
+  -- ---- what stays
+  pub with-long : length (withNode s memory j l) ≡ length memory
+  with-long = length-splice memory (nodeAt s j) (nodeEnd s j) (omega arith) inside l fits
+
+  front : 536 ≤ nodeAt s j
+  unfolding nodeAt
+  front = omega arith
+
+  pub with-word : (k : ℕ) → k < 536 → getD (withNode s memory j l) k 0 ≡ getD memory k 0
+  with-word k g =
+      let f = front in
+      sym (getD-take (nodeAt s j) (withNode s memory j l) k 0 (omega arith))
+      ∙ ap (λ (x : List ℕ). getD x k 0) (take-splice memory (nodeAt s j) (nodeEnd s j) (omega arith) inside l fits)
+      ∙ getD-take (nodeAt s j) memory k 0 (omega arith)
+
+  pub with-settings : settingsIn (withNode s memory j l) ≡ settingsIn memory
+  with-settings =
+      let g : (k : ℕ) → k < 536 → getD (withNode s memory j l) k 0 ≡ getD memory k 0 = with-word in
+      rw (g 0 (omega arith), g 1 (omega arith), g 2 (omega arith), g 3 (omega arith), g 4 (omega arith))
+
+  pub with-table : tableIn (withNode s memory j l) ≡ tableIn memory
+  with-table = part-before memory (nodeAt s j) (nodeEnd s j) (omega arith) inside l fits 24 536 (omega arith) front
