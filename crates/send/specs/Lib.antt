@@ -1,3 +1,1 @@
-pub mod Letter
-pub mod Post
 pub mod Outcome
