@@ -1,1 +1,3 @@
 pub mod Rooms
+pub mod Frames
+pub mod Laid

@@ -5,7 +5,7 @@ ghost use mathlib.Core.Path.{_≡_};
 ghost use Prim.Native.Nat.{ℕ, _+_, _≤_, _<_};
 ghost use lib.ListN.{length};
 ghost use Rattle.layout.specs.Places.{taskAt, sendAt};
-ghost use Rattle.layout.specs.Numbers.{headerWords};
+ghost use Rattle.layout.specs.Numbers.{headerWords, greatestLength};
 ghost use Rattle.blocks.specs.Asked.{Takes};
 ghost use Rattle.blocks.specs.Moves.{enough};
 ghost use Rattle.queues.specs.Queue.{Queue, sendKind};
@@ -70,4 +70,91 @@ fn has_room(node: &[u32], s: Settings, goal: Goal) -> bool
         Goal::Task(q) => task_has_room(node, s, layout::task_at(s, q)),
         Goal::Node(k) => send_has_room(node, s, layout::send_at(s, k)),
     }
+}
+
+// Counts that the goal was found full.
+fn count_full(node: &mut [u32], s: Settings, goal: Goal)
+    requires { ⌜ Aims s (now node) goal ⌝ }
+    ensures { λ _. ⌜ now (node .exit) ≡ counted (now (node .entry)) (fullOf s goal) ⌝ }
+{
+    match goal {
+        Goal::Task(q) => {
+            let at = layout::task_at(s, q) + 3;
+            queues::count_up(node, at);
+        }
+        Goal::Node(k) => {
+            let at = layout::send_at(s, k) + 2;
+            queues::count_up(node, at);
+        }
+    }
+}
+
+// Appends a block to the goal.
+fn append_to(node: &mut [u32], s: Settings, goal: Goal, b: u32)
+    requires { ⌜ Aims s (now node) goal ⌝ }
+    ensures { λ _. ⌜ now (node .exit) ≡ appendedTo s (now (node .entry)) goal b ⌝ }
+{
+    match goal {
+        Goal::Task(q) => {
+            let at = layout::task_at(s, q);
+            gaps::append(node, s, at, b);
+        }
+        Goal::Node(k) => {
+            let at = layout::send_at(s, k);
+            queues::append(node, queues::send_kind(s), at, b);
+        }
+    }
+}
+
+// Takes blocks, writes the words and appends the first block.
+fn put_in(node: &mut [u32], s: Settings, goal: Goal, words: &[u32])
+    requires { ⌜ Roomy s (now node) goal (length (now words)) ⌝ }
+    ensures { λ _. ⌜ now (node .exit) ≡ putIn s (now (node .entry)) goal (now (words .entry)) ⌝ }
+{
+    let n = blocks::needs_of(s, words.len());
+    let Taken::First(first) = blocks::take(node, s, n) else {
+        return;
+    };
+    letters::write(node, s, first, words);
+    append_to(node, s, goal, first);
+}
+
+// Puts a letter into the stretch, or counts what was wanting: blocks, or room in the queue.
+pub fn post(node: &mut [u32], s: Settings, goal: Goal, words: &[u32]) -> Sent
+    requires { ⌜ Posts s (now node) goal (length (now words)) ⌝ }
+    ensures { λ r. ⌜ record { answer = r; stretch = now (node .exit) } ≡ posted s (now (node .entry)) goal (now (words .entry)) ⌝ }
+{
+    let n = blocks::needs_of(s, words.len());
+    if !has_blocks(node, s, n) {
+        queues::count_up(node, 1);
+        return Sent::TooFewBlocks;
+    }
+    if !has_room(node, s, goal) {
+        count_full(node, s, goal);
+        return Sent::QueueFull;
+    }
+    put_in(node, s, goal, words);
+    Sent::Done(n as u32)
+}
+
+// The words of a letter: the header, then the body.
+pub fn lay_letter(
+    words: &mut [u32],
+    source: u32,
+    from: u32,
+    destination: u32,
+    to: u32,
+    body: &[u32],
+)
+    requires { ⌜ length (now words) ≡ headerWords + length (now body) ⌝ }
+    requires { ⌜ length (now words) ≤ greatestLength ⌝ }
+    ensures { λ _. ⌜ now (words .exit) ≡ letterOf source from destination to (now (body .entry)) ⌝ }
+{
+    let end = words.len();
+    words[0] = source;
+    words[1] = from;
+    words[2] = destination;
+    words[3] = to;
+    words[4] = end as u32;
+    words::copy(&mut words[5..end], body);
 }
