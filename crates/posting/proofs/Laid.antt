@@ -18,7 +18,7 @@ laid-length l source from destination to p e = same-len-mid 5 (length l - 5) (he
 
 -- and the body in the part behind it
 pub laid-letter : (l : List ℕ) (source from destination to : ℕ) (body p : List ℕ) → length l ≡ 5 + length body → p ≡ body
-    → putMid 5 (length l - 5) (headed l source from destination to) p ≡ letterOf source from destination to body
+    → putMid 5 (length l - 5) (headed l source from destination to) p ≡ letterOf (record { source = source; from = from; destination = destination; to = to }) body
 unfolding letterOf
 laid-letter [] s f d t body p e q = absurd (omega arith)
 laid-letter (x0 ∷ []) s f d t body p e q = absurd (omega arith)

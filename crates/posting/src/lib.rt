@@ -33,6 +33,14 @@ pub enum Goal {
     Node(usize),
 }
 
+// The two tasks of a letter, each with its node.
+pub struct Header {
+    pub source: u32,
+    pub from: u32,
+    pub destination: u32,
+    pub to: u32,
+}
+
 // Whether the free list has n blocks.
 fn has_blocks(node: &[u32], s: Settings, n: usize) -> bool
     requires { ⌜ Takes s (now node) n ⌝ }
@@ -138,23 +146,16 @@ pub fn post(node: &mut [u32], s: Settings, goal: Goal, words: &[u32]) -> Sent
 }
 
 // The words of a letter: the header, then the body.
-pub fn lay_letter(
-    words: &mut [u32],
-    source: u32,
-    from: u32,
-    destination: u32,
-    to: u32,
-    body: &[u32],
-)
+pub fn lay_letter(words: &mut [u32], header: Header, body: &[u32])
     requires { ⌜ length (now words) ≡ headerWords + length (now body) ⌝ }
     requires { ⌜ length (now words) ≤ greatestLength ⌝ }
-    ensures { λ _. ⌜ now (words .exit) ≡ letterOf source from destination to (now (body .entry)) ⌝ }
+    ensures { λ _. ⌜ now (words .exit) ≡ letterOf header (now (body .entry)) ⌝ }
 {
     let end = words.len();
-    words[0] = source;
-    words[1] = from;
-    words[2] = destination;
-    words[3] = to;
+    words[0] = header.source;
+    words[1] = header.from;
+    words[2] = header.destination;
+    words[3] = header.to;
     words[4] = end as u32;
     words::copy(&mut words[5..end], body);
 }

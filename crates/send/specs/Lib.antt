@@ -1,1 +1,2 @@
 pub mod Outcome
+pub mod Asked
