@@ -26,7 +26,7 @@ use Rattle.blocks.specs.declared.Taken.the-variants.{First, Short}
 use Rattle.blocks.proofs.Steps.{down, head-fits}
 use Rattle.blocks.proofs.Chains.{Leads, textIn, firstIn, setFirst, setLink, leads-split}
 use Rattle.blocks.proofs.Rows.{rows, within-in, in-within, once-most, link-rows, rows-link, first-rows, rows-first, text-rows, chain-is, after-is, free-is, chain-leads, free-leads, block-long, head-long}
-use Rattle.blocks.proofs.Laws.{takenRows, givenRows, taken-chain, taken-free, taken-text, taken-leads, taken-count, given-free, given-text, given-leads}
+use Rattle.blocks.proofs.Laws.{takenRows, givenRows, taken-other, taken-chain, taken-free, taken-text, taken-leads, taken-count, given-free, given-text, given-leads}
 
 pub length-chain : (s : Settings) (node : List ℕ) (n b : ℕ) → length (chain s node n b) ≡ n
 unfolding chain
@@ -345,3 +345,11 @@ module _ (s : Settings) (node : List ℕ) (st : Stretch s node) where
         ∙ ap (λ (R : ℕ → List ℕ). textIn (s .b) R t) given-rows
         ∙ given-text (s .b) (rows s node) b v t
         ∙ sym (text-rows s (st .range) node t i)
+
+-- NO ROW OF A QUEUE CHANGES where blocks are taken
+pub take-row : (s : Settings) (node : List ℕ) (st : Stretch s node) → FreeList s node → (n : ℕ) → 1 ≤ n → n ≤ length (free s node)
+    → (r : ℕ) → 1 ≤ r → r < 77 → rows s (taken s node n) r ≡ rows s node r
+take-row s node st fl n some has r h k =
+    let i = in-y s node st fl n some has in
+    ap (λ (R : ℕ → List ℕ). R r) (taken-rows s node st fl n some has)
+    ∙ taken-other (s .b) (rows s node) (getD (free s node) (n - 1) 0) r (λ e. omega arith) (λ e. omega arith)

@@ -189,3 +189,11 @@ module _ (s : Settings) (node : List ℕ) (st : Stretch s node) (b : ℕ) (ws : 
     write-read =
         let e : chain s new (needs s (length ws)) b ≡ c = write-chain (needs s (length ws)) b wi in
         rw (e, write-over) (over-read ws (text s node c) (omega (arith, chain-long s node (needs s (length ws)) b (record { stretch = st; within = wi }), needs-enough s (st .range) (length ws))))
+
+-- NO ROW BUT A BLOCK'S CHANGES where a letter is written
+pub write-row : (s : Settings) (node : List ℕ) (st : Stretch s node) (b : ℕ) (ws : List ℕ) (wi : Within (s .m) (chain s node (needs s (length ws)) b))
+    → (r : ℕ) → r < 77 → rows s (written s node b ws) r ≡ rows s node r
+write-row s node st b ws wi r k =
+    ap (λ (R : ℕ → List ℕ). R r) (rows-letter s node st b ws wi)
+    ∙ fill-other (s .b) (rows s node) (chain s node (needs s (length ws)) b) ws r
+    (λ x o z. let i = within-in (s .m) (chain s node (needs s (length ws)) b) x wi o in omega arith)

@@ -10,17 +10,18 @@ use lib.Dec.{ltb}
 use lib.ListN.{length, getD, set}
 use Rattle.words.specs.Words.{more}
 use Rattle.words.specs.Rows as rows
-use Rattle.words.proofs.Rows.{But, but-get, but-set}
+use Rattle.words.proofs.Rows.{But, but-none, but-get, but-set, length-row}
 use Rattle.settings.specs.declared.Settings.{Settings}
 use Rattle.settings.specs.Range.{InRange}
 use Rattle.layout.specs.Places.{gapWord}
 use Rattle.layout.specs.Rows.{width}
 use Rattle.layout.proofs.NodeRows.{width-send, width-ack, width-task}
 use Rattle.queues.specs.declared.Kind.{Kind}
-use Rattle.queues.specs.Queue.{start, items, slotFrom, slotAt, itemAt, run, contents, sendKind, ackKind, taskKind}
+use Rattle.queues.specs.Queue.{start, items, slotFrom, slotAt, itemAt, run, contents, sendKind, ackKind, taskKind, Queue}
+use Rattle.queues.specs.Tasks.{TaskQueue}
 use Rattle.queues.specs.Moves.{counted, added, appended, appendAnswer, dropped}
-use Rattle.queues.proofs.Ring.{Ring}
-use Rattle.queues.proofs.Tasks.{TaskRing}
+use Rattle.queues.proofs.Ring.{Ring, ring-of, ring-queue}
+use Rattle.queues.proofs.Tasks.{TaskRing, task-of, task-queue}
 
 -- a row of n words has room for a queue of the kind
 pub record Room (k : Kind) (n : ℕ) : Type 0 where
@@ -151,3 +152,20 @@ module _ (wide : ℕ → ℕ) (l : List ℕ) (r : ℕ) (s : Settings) (w : Room 
         first = t .first;
         flag = sym (but-word wide l r (taskKind s) w b gapWord (omega arith)) ∙ t .flag;
       }
+
+-- WORDS WHOSE ROW IS THE SAME have the same queue in it
+module _ (wide : ℕ → ℕ) (l m : List ℕ) (r : ℕ) (e : rows.row wide m r ≡ rows.row wide l r)
+    (z : rows.start wide r + wide r ≤ length l) (y : rows.start wide r + wide r ≤ length m) where
+  pub queue-kept : (k : Kind) → Room k (wide r) → Queue k l (rows.start wide r) → Queue k m (rows.start wide r)
+  queue-kept k w g =
+      let xs : List ℕ = contents k l (rows.start wide r) in
+      ring-queue k m (rows.start wide r)
+      (ring-up wide m r k w (but-none wide m r) xs y
+      (rw e (ring-down wide l r k w (but-none wide l r) xs (length-row wide l r z) (ring-of k l (rows.start wide r) g))))
+
+  pub task-kept : (s : Settings) → Room (taskKind s) (wide r) → TaskQueue s l (rows.start wide r) → TaskQueue s m (rows.start wide r)
+  task-kept s w g =
+      let xs : List ℕ = contents (taskKind s) l (rows.start wide r) in
+      task-queue s m (rows.start wide r)
+      (task-up wide m r s w (but-none wide m r) xs y
+      (rw e (task-down wide l r s w (but-none wide l r) xs (length-row wide l r z) (task-of s l (rows.start wide r) g))))

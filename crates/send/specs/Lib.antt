@@ -1,3 +1,2 @@
-pub mod Letter
-pub mod Post
 pub mod Outcome
+pub mod Asked

@@ -1,24 +1,24 @@
 -- What send answers and leaves, for any memory, tasks and body: 'Send', 'What comes back'.
 use mathlib.Core.Bool.{Bool, cond, _&&_}
 use mathlib.Core.List.{List}
-use Prim.Native.Nat.{ℕ}
+use Prim.Native.Nat.{ℕ, _+_}
 use lib.Dec.{eqb, leb}
 use lib.ListN.{length}
 use Rattle.settings.specs.declared.Settings.{Settings}
 use Rattle.layout.specs.Places.{node, withNode}
-use Rattle.layout.specs.Numbers.{greatestBody}
+use Rattle.layout.specs.Numbers.{headerWords, greatestBody}
 use Rattle.tasks.specs.Table.{nodeOf, queueOf, isBound}
 use Rattle.blocks.specs.Chain.{needs}
 use Rattle.sound.specs.Reading.{settingsIn, tableIn}
 use Rattle.sound.specs.Sound.{sound}
 use Rattle.answers.specs.declared.Answer.{Answer}
 use Rattle.answers.specs.Numbers.{bare, done, notSound, firstNotBound, otherNotBound, bodyTooLong, tooFewBlocks, queueFull}
-use Rattle.send.specs.Letter.{letterWords}
-use Rattle.send.specs.Post.{posted}
-use Rattle.send.specs.declared.Goal.{Goal}
-use Rattle.send.specs.declared.Goal.the-variants.{Task, Node}
-use Rattle.send.specs.declared.Sent.{Sent}
-use Rattle.send.specs.declared.Sent.the-variants.{Done, NotSound, SourceNotBound, DestinationNotBound, BodyTooLong, TooFewBlocks, QueueFull}
+use Rattle.posting.specs.Letter.{letterOf, headerOf}
+use Rattle.posting.specs.Post.{Posted, posted}
+use Rattle.posting.specs.declared.Goal.{Goal}
+use Rattle.posting.specs.declared.Goal.the-variants.{Task, Node}
+use Rattle.posting.specs.declared.Sent.{Sent}
+use Rattle.posting.specs.declared.Sent.the-variants.{Done, NotSound, SourceNotBound, DestinationNotBound, BodyTooLong, TooFewBlocks, QueueFull}
 
 -- the document's number and values for each case: 'Send answers blocks taken'
 abbrev pub told : Sent → Answer
@@ -38,29 +38,34 @@ pub record Outcome : Type 0 where
 abbrev pub refusedBy : Sent → List ℕ → Outcome
 refusedBy a memory = record { answer = a; memory = memory }
 
+-- 'body over 1,019, or needs over M blocks': of a body of n words
+unfoldable pub fits : Settings → ℕ → Bool
+fits s n = leb n greatestBody && leb (needs s (headerWords + n)) (s .m)
+
+-- 'to the destination's task queue if on the same node, else to the send queue for that node'
+unfoldable pub goalOf : ℕ → ℕ → ℕ → Goal
+goalOf from to queue = cond (eqb from to) (Task queue) (Node to)
+
+-- a letter's words posted in node i: 'a change to one node is made in that node's stretch alone'
+unfoldable pub postedIn : Settings → List ℕ → ℕ → Goal → List ℕ → Outcome
+postedIn s memory i goal words =
+    let p = posted s (node s memory i) goal words in
+    record { answer = p .answer; memory = withNode s memory i (p .stretch) }
+
 module _ (memory : List ℕ) (source destination : ℕ) (body : List ℕ) where
   abbrev pub settings : Settings
   settings = settingsIn memory
 
-  abbrev pub words : List ℕ
-  words = letterWords (tableIn memory) source destination body
-
-  -- 'body over 1,019, or needs over M blocks'
-  unfoldable pub fits : Bool
-  fits = leb (length body) greatestBody && leb (needs settings (length words)) (settings .m)
-
-  -- the source's node, in which the blocks are taken
+  -- the source's node, in which the blocks are taken, and the destination's
   abbrev pub home : ℕ
   home = nodeOf (tableIn memory) source
 
-  -- the destination's queue, seen from the source's node
-  unfoldable pub goal : Goal
-  goal = cond (eqb home (nodeOf (tableIn memory) destination)) (Task (queueOf (tableIn memory) destination)) (Node (nodeOf (tableIn memory) destination))
+  abbrev pub away : ℕ
+  away = nodeOf (tableIn memory) destination
 
   unfoldable pub delivered : Outcome
   delivered =
-      let p = posted settings (node settings memory home) goal words in
-      record { answer = p .answer; memory = withNode settings memory home (p .stretch) }
+      postedIn settings memory home (goalOf home away (queueOf (tableIn memory) destination)) (letterOf (headerOf (tableIn memory) source destination) body)
 
   -- 'Order: send 1, 2, 3, 4, 5, 6'
   unfoldable pub send : Outcome
@@ -68,7 +73,7 @@ module _ (memory : List ℕ) (source destination : ℕ) (body : List ℕ) where
       cond (sound memory)
       (cond (isBound (tableIn memory) source)
       (cond (isBound (tableIn memory) destination)
-      (cond fits delivered (refusedBy BodyTooLong memory))
+      (cond (fits settings (length body)) delivered (refusedBy BodyTooLong memory))
       (refusedBy DestinationNotBound memory))
       (refusedBy SourceNotBound memory))
       (refusedBy NotSound memory)

@@ -13,10 +13,10 @@ use Rattle.queues.specs.declared.Appended.the-variants.{Done as Appended-done, 
 use Rattle.queues.specs.Queue.{sendKind}
 use Rattle.queues.specs.Moves.{counted, appended, appendAnswer}
 use Rattle.gaps.specs.Close.{taskAppended, taskAnswer}
-use Rattle.send.specs.declared.Goal.{Goal}
-use Rattle.send.specs.declared.Goal.the-variants.{Task, Node}
-use Rattle.send.specs.declared.Sent.{Sent}
-use Rattle.send.specs.declared.Sent.the-variants.{Done, TooFewBlocks, QueueFull}
+use Rattle.posting.specs.declared.Goal.{Goal}
+use Rattle.posting.specs.declared.Goal.the-variants.{Task, Node}
+use Rattle.posting.specs.declared.Sent.{Sent}
+use Rattle.posting.specs.declared.Sent.the-variants.{Done, TooFewBlocks, QueueFull}
 
 -- the queue takes one more, its gaps closed
 abbrev pub tookIt : Appended → Bool
@@ -38,19 +38,22 @@ module _ (s : Settings) (stretch : List ℕ) where
   appendedTo (Task q) b = taskAppended s stretch (taskAt s q) b
   appendedTo (Node k) b = appended (sendKind s) stretch (sendAt s k) b
 
-  -- the word that counts the appends which found the queue full
-  abbrev pub fullOf : Goal → ℕ
-  fullOf (Task q) = taskAt s q + taskFullWord
-  fullOf (Node k) = sendAt s k + fullWord
+-- the word that counts the appends which found the queue full
+unfoldable pub fullOf : Settings → Goal → ℕ
+fullOf s (Task q) = taskAt s q + taskFullWord
+fullOf s (Node k) = sendAt s k + fullWord
+
+-- 'Takes blocks in the source's node, writes header and body, and appends the first block'
+unfoldable pub putIn : Settings → List ℕ → Goal → List ℕ → List ℕ
+putIn s stretch goal ws =
+    let first = getD stretch firstFreeAt 0 in
+    appendedTo s (written s (taken s stretch (needs s (length ws))) first ws) goal first
 
 -- 5: the room count rises; 6: the queue's full count rises, and 'the free list and every block' stay; else the letter is put in
 unfoldable pub posted : Settings → List ℕ → Goal → List ℕ → Posted
 posted s stretch goal ws =
     cond (enough s stretch (needs s (length ws)))
     (cond (hasRoom s stretch goal)
-    (record {
-      answer = Done (needs s (length ws));
-      stretch = appendedTo s (written s (taken s stretch (needs s (length ws))) (getD stretch firstFreeAt 0) ws) goal (getD stretch firstFreeAt 0);
-    })
-    (record { answer = QueueFull; stretch = counted stretch (fullOf s stretch goal) }))
+    (record { answer = Done (needs s (length ws)); stretch = putIn s stretch goal ws })
+    (record { answer = QueueFull; stretch = counted stretch (fullOf s goal) }))
     (record { answer = TooFewBlocks; stretch = counted stretch roomAt })

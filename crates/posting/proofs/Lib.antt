@@ -1,0 +1,3 @@
+pub mod Rooms
+pub mod Frames
+pub mod Laid

@@ -1,0 +1,3 @@
+pub mod Letter
+pub mod Post
+pub mod Asked
