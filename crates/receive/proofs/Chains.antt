@@ -34,7 +34,7 @@ use Rattle.taking.proofs.InRow.{but-taken}
 use Rattle.sound.specs.Letters.{chainFrom}
 use Rattle.receive.specs.Take.{emptied}
 use Rattle.receive.specs.Asked.{Whole, Leaves}
-use Rattle.receive.proofs.Bodies.{body-most, owed-is, owed-some, owed-within}
+use Rattle.receive.proofs.Bodies.{needs-some, whole, body-most, owed-is, owed-within}
 
 -- ---- words that differ in one row before the blocks have the same chains
 module _ (s : Settings) (range : InRange s) (l : List ℕ) (r : ℕ) (h : r ≤ 76) {m p : List ℕ} (d : But (width s) l r m p) where
@@ -86,15 +86,17 @@ module _ (s : Settings) (w : List ℕ) (q k b n : ℕ) (h : Leaves s w q k b n) 
   pub leaves-most : n ≤ greatestBody
   leaves-most = rw (h .words) (body-most s w b leaves-whole)
 
-  module _ {owed at : ℕ} {m : List ℕ} (o : owed ≡ needs s (n + headerWords)) (a : at ≡ taskAt s q) (t : m ≡ takenOut s w at k) where
-    owes : owed ≡ length (chainFrom s w b)
-    owes = o ∙ owed-is s w b leaves-whole (h .words)
-
-    pub leaves-walks : Walks s m owed b × (1 ≤ owed)
-    leaves-walks =
+  module _ {owed at j : ℕ} {m : List ℕ} (o : owed ≡ needs s j) (a : at ≡ taskAt s q) (t : m ≡ takenOut s w at k) where
+    pub leaves-walks : 1 ≤ j → j ≤ n + headerWords → Walks s m owed b × (1 ≤ owed)
+    leaves-walks l u =
         let g = leaves-whole in
-        (rw (t, a, owes) (taken-walks s w (g .stretch) q (h .holds .queue) k (length (chainFrom s w b)) b (owed-within s w b g)), rw owes (owed-some s w b g))
+        let y = whole s w b g (h .words) in (
+          rw (t, a, o) (taken-walks s w (g .stretch) q (h .holds .queue) k (needs s j) b (owed-within s w b g j (omega arith))),
+          rw o (needs-some s (g .stretch .range) j l),
+        )
 
-    pub leaves-is : {e : List ℕ} → e ≡ givenBack s m owed b → e ≡ emptied s w q 0 k
+    pub leaves-is : j ≡ n + headerWords → {e : List ℕ} → e ≡ givenBack s m owed b → e ≡ emptied s w q 0 k
     unfolding emptied
-    leaves-is f = f ∙ rw (t, a, owes) (ap (λ (x : ℕ). givenBack s (takenOut s w (taskAt s q) k) (length (chainFrom s w x)) x) (h .first))
+    leaves-is u f =
+        let z : owed ≡ length (chainFrom s w b) = o ∙ ap (needs s) u ∙ owed-is s w b leaves-whole (h .words) in
+        f ∙ rw (t, a, z) (ap (λ (x : ℕ). givenBack s (takenOut s w (taskAt s q) k) (length (chainFrom s w x)) x) (h .first))
