@@ -1,10 +1,11 @@
 -- Chains over a node's rows R, where row 76 + b is block b, B words, its last word the link: what they lead through, their words, and what leaves them alone. Assumes nothing.
 --     Leads, textIn     from b through the blocks l to e; the words of the blocks l
 --     Same, leads-same, text-same     THE FRAME: rows that are the same at the blocks of a chain have the same chain and words
+--     leads-queue, text-queue     a store in the head or in a queue
 --     setLink, setFirst, leads-end     a link set anew, the first free block set anew; a chain turned to another end
 use mathlib.Core.Path.{_≡_, refl, sym, ap, ap₂, _∙_}
 use mathlib.Core.List.{List, [], _∷_, _++_}
-use Prim.Native.Nat.{ℕ, _+_, _-_, _*_, _≤_}
+use Prim.Native.Nat.{ℕ, _+_, _-_, _*_, _≤_, _<_}
 use native.Mathlib.Nat.{suc-mul, zero-mul}
 use native.Mathlib.Omega.{arith}
 use lib.ListN.{length, getD, set, take, length-set, length-append}
@@ -72,6 +73,17 @@ module _ (B : ℕ) (R R′ : ℕ → List ℕ) where
 pub same-put : (R : ℕ → List ℕ) (r : ℕ) (w : List ℕ) (l : List ℕ) → ((b : ℕ) → 1 ≤ occurs b l → 76 + b ≡ r → ⊥) → Same R (put R r w) l
 unfolding Same
 same-put R r w l h = λ b o. put-other R r w (76 + b) (h b o)
+
+-- a row of the head or of a queue put anew leaves every chain and its words as they were
+module _ (B : ℕ) (R : ℕ → List ℕ) (r : ℕ) (w : List ℕ) (queue : r < 77) (l : List ℕ) (low : (x : ℕ) → 1 ≤ occurs x l → 1 ≤ x) where
+  queue-same : Same R (put R r w) l
+  queue-same = same-put R r w l (λ b o e. omega (arith, low b o))
+
+  pub leads-queue : (b e : ℕ) → Leads B R b l e → Leads B (put R r w) b l e
+  leads-queue b e h = leads-same B R (put R r w) b l e queue-same h
+
+  pub text-queue : textIn B (put R r w) l ≡ textIn B R l
+  text-queue = text-same B R (put R r w) l queue-same
 
 pub same-trans : (R₁ R₂ R₃ : ℕ → List ℕ) (l : List ℕ) → Same R₁ R₂ l → Same R₂ R₃ l → Same R₁ R₃ l
 unfolding Same

@@ -122,7 +122,7 @@ module _ (s : Settings) (range : InRange s) where
     chain-leads (suc n) b i =
         (refl, rw (← link-rows l b (i b (omega (arith, hit-self b)))) (chain-leads n (link s l b) (λ z o. i z (omega arith))))
 
-    list-leads : (n b : ℕ) → ((x : ℕ) → 1 ≤ occurs x (list s l n b) → 1 ≤ x) → Leads (s .b) (rows s l) b (list s l n b) (after s l (length (list s l n b)) b)
+    pub list-leads : (n b : ℕ) → ((x : ℕ) → 1 ≤ occurs x (list s l n b) → 1 ≤ x) → Leads (s .b) (rows s l) b (list s l n b) (after s l (length (list s l n b)) b)
     unfolding list after
     list-leads zero b i = refl
     list-leads (suc n) b i =

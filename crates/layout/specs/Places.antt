@@ -1,7 +1,6 @@
 -- Where each word of the memory stands: 'Settings and memory', in its order.
 use mathlib.Core.List.{List}
 use Prim.Native.Nat.{ℕ, _+_, _-_, _*_}
-use lib.ListN.{getD}
 use Rattle.words.specs.Words.{part, splice}
 use Rattle.settings.specs.declared.Settings.{Settings}
 

@@ -4,3 +4,4 @@ pub mod Steps
 pub mod Laws
 pub mod Copies
 pub mod Examples
+pub mod Sends

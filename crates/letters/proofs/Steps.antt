@@ -247,12 +247,15 @@ module _ (s : Settings) (memory : List ℕ) (size : ℕ) (es : size ≡ nodeSize
   pub lies-part : (i a n n′ b : ℕ) → a ≡ nodeAt s i → n′ ≡ n → Lies s (node s memory i) n b → Lies s (part memory a (a + size)) n′ b
   lies-part i a n n′ b ea en l = rw (node-part i a ea, en) l
 
+  pub side-is : (n i b a : ℕ) (side : List ℕ) → a ≡ nodeAt s i → side ≡ drop 0 (letter s (part memory a (a + size)) (0 + n) b) → side ≡ letter s (node s memory i) n b
+  side-is n i b a side ea er =
+      let z : 0 + n ≡ n = omega arith in er ∙ ap₂ (λ (m : List ℕ) (k : ℕ). letter s m k b) (node-part i a ea) z
+
   pub copied-is : (n i b j c a f : ℕ) (side p : List ℕ) → a ≡ nodeAt s i → f ≡ nodeAt s j → side ≡ drop 0 (letter s (part memory a (a + size)) (0 + n) b)
       → p ≡ written s (part memory f (f + size)) c side → putMid f (f + size - f) memory p ≡ copied s memory n i b j c
   unfolding copied
   copied-is n i b j c a f side p ea ef er ew =
-      let z : 0 + n ≡ n = omega arith in
-      let l : side ≡ letter s (node s memory i) n b = er ∙ ap₂ (λ (m : List ℕ) (k : ℕ). letter s m k b) (node-part i a ea) z in
+      let l : side ≡ letter s (node s memory i) n b = side-is n i b a side ea er in
       back f (f + size) memory (omega arith) (ew ∙ ap₂ (λ (m ws : List ℕ). written s m c ws) (node-part j f ef) l)
       ∙ ap₂ (λ (k z : ℕ). splice memory k (k + z) (written s (node s memory j) c (letter s (node s memory i) n b))) ef es
 

@@ -4,7 +4,7 @@ ghost use mathlib.Core.Path.{_≡_};
 ghost use Prim.Native.Nat.{_+_, _-_, min};
 ghost use lib.ListN.{length, take, drop};
 ghost use lib.Seq.{sets};
-ghost use Rattle.layout.specs.Places.{blockAt};
+ghost use Rattle.layout.specs.Places.{blockAt, node as stretch};
 ghost use Rattle.layout.specs.Numbers.{headerWords};
 ghost use Rattle.blocks.specs.Chain.{chain, text};
 ghost use Rattle.blocks.specs.Asked.{Block, Walks};
@@ -128,7 +128,8 @@ fn copy_through(
     side: &mut [u32],
 )
     requires { ⌜ Copies s (now memory) (length (now side)) i b j c ⌝ }
-    ensures { λ _. ⌜ now (memory .exit) ≡ copied s (now (memory .entry)) (length (now (side .entry))) i b j c ⌝ }
+    ensures copied { λ _. ⌜ now (memory .exit) ≡ copied s (now (memory .entry)) (length (now (side .entry))) i b j c ⌝ }
+    ensures read { λ _. ⌜ now (side .exit) ≡ letter s (stretch s (now (memory .entry)) i) (length (now (side .entry))) b ⌝ }
 {
     let size = layout::node_size(s);
     let a = layout::node_at(s, i);

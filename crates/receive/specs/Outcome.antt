@@ -1,5 +1,5 @@
 -- What receive answers and leaves, for any memory, tasks and out: 'Receive', 'What comes back'.
-use mathlib.Core.Bool.{Bool, cond, _||_}
+use mathlib.Core.Bool.{cond, _||_}
 use mathlib.Core.List.{List}
 use Prim.Native.Nat.{ℕ}
 use lib.Dec.{eqb}
@@ -10,7 +10,7 @@ use Rattle.sound.specs.Reading.{settingsIn, tableIn}
 use Rattle.sound.specs.Sound.{sound}
 use Rattle.answers.specs.declared.Answer.{Answer}
 use Rattle.answers.specs.Numbers.{bare, done, notSound, firstNotBound, otherNotBound, noSuchLetter, noSuchLetterQueueFull, outShorterThanBody}
-use Rattle.receive.specs.Take.{Took, took}
+use Rattle.receive.specs.Take.{took}
 use Rattle.receive.specs.declared.Received.{Received}
 use Rattle.receive.specs.declared.Received.the-variants.{Done, NotSound, DestinationNotBound, SourceNotBound, NoLetter, NoLetterQueueFull, OutTooShort}
 

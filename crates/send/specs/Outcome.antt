@@ -14,7 +14,7 @@ use Rattle.sound.specs.Sound.{sound}
 use Rattle.answers.specs.declared.Answer.{Answer}
 use Rattle.answers.specs.Numbers.{bare, done, notSound, firstNotBound, otherNotBound, bodyTooLong, tooFewBlocks, queueFull}
 use Rattle.send.specs.Letter.{letterWords}
-use Rattle.send.specs.Post.{Posted, posted}
+use Rattle.send.specs.Post.{posted}
 use Rattle.send.specs.declared.Goal.{Goal}
 use Rattle.send.specs.declared.Goal.the-variants.{Task, Node}
 use Rattle.send.specs.declared.Sent.{Sent}

@@ -1,11 +1,11 @@
 -- What a sound memory gives: its parts and sizes, its queues, its free lists, its letters. Assumes nothing.
-use mathlib.Core.Path.{_≡_, refl, sym, ap, _∙_}
-use mathlib.Core.Bool.{Bool, true, false, _&&_, _||_, not, false≢true}
-use mathlib.Core.List.{List, [], _∷_, _++_}
+use mathlib.Core.Path.{_≡_, sym, _∙_}
+use mathlib.Core.Bool.{true, false, _&&_, false≢true}
+use mathlib.Core.List.{List, [], _∷_}
 use mathlib.Core.Logic.{⊎-elim}
-use Prim.Native.Nat.{ℕ, zero, suc, _+_, _-_, _≤_, _<_}
+use Prim.Native.Nat.{ℕ, suc, _+_, _-_, _≤_, _<_}
 use native.Mathlib.Omega.{arith}
-use lib.Dec.{eqb, ltb, leb}
+use lib.Dec.{eqb, leb}
 use lib.ListN.{length, getD}
 use borrow.Author.Tests.{eqb-true, eq-eqb, ne-eqb, leb-true}
 use Rattle.words.specs.Words.{every, all}
@@ -20,19 +20,19 @@ use Rattle.layout.specs.Places.{nodes, taskQueues, firstFreeAt, sendAt, ackAt, 
 use Rattle.layout.specs.Asked.{Stretch, Sized}
 use Rattle.layout.proofs.MemoryRows.{stretch-fits}
 use Rattle.tasks.specs.Table.{rightTable}
-use Rattle.blocks.specs.Chain.{after, list, free, Within, Once}
+use Rattle.blocks.specs.Chain.{after, free, Within}
 use Rattle.blocks.specs.Asked.{FreeList}
 use Rattle.blocks.proofs.Rows.{within-in}
-use Rattle.queues.specs.Queue.{sendKind, ackKind, taskKind, items, itemAt, contents, Queue}
+use Rattle.queues.specs.Queue.{sendKind, ackKind, taskKind, items, itemAt, Queue}
 use Rattle.queues.specs.Items.{gapFlag}
 use Rattle.queues.specs.Tasks.{TaskQueue}
 use Rattle.queues.proofs.Placing.{placed-send, placed-ack, placed-task}
 use Rattle.queues.proofs.Views.{length-contents, contents-item}
-use Rattle.sound.specs.Reading.{settingsIn, turnIn, tableIn, sendItems, ackItems, taskItems}
-use Rattle.sound.specs.Queues.{inShape, isBlock, noneToItself, noneUnbound, firstLive, rightSend, rightAck, rightTask, rightQueues}
-use Rattle.sound.specs.Letters.{chainFrom, endsWell, rightLetter}
+use Rattle.sound.specs.Reading.{settingsIn, turnIn, tableIn, sendItems, taskItems}
+use Rattle.sound.specs.Queues.{inShape, noneToItself, noneUnbound, firstLive, rightSend, rightAck, rightTask, rightQueues}
+use Rattle.sound.specs.Letters.{chainFrom, endsWell}
 use Rattle.sound.specs.Positions.{rightPosition}
-use Rattle.sound.specs.Blocks.{begun, standing, visits, eachOnce, rightLetters}
+use Rattle.sound.specs.Blocks.{standing, visits, eachOnce, rightLetters}
 use Rattle.sound.specs.Sound.{rightSize, sound}
 use Rattle.sound.proofs.Shapes.{shape-queue}
 

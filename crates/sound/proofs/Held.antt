@@ -1,18 +1,18 @@
 -- What a sound memory gives of each letter: those that task queues and send queues begin. Assumes nothing.
-use mathlib.Core.Path.{_≡_, refl, sym, ap, _∙_}
-use mathlib.Core.Bool.{Bool, true, false, cond, _&&_}
-use mathlib.Core.List.{List, [], _∷_, _++_}
+use mathlib.Core.Path.{_≡_, ap, _∙_}
+use mathlib.Core.Bool.{Bool, true, _&&_}
+use mathlib.Core.List.{List, [], _∷_}
 use Prim.Native.Nat.{ℕ, zero, suc, _+_, _-_, _≤_, _<_}
 use native.Mathlib.Omega.{arith}
 use lib.Dec.{eqb, leb}
 use lib.ListN.{length, getD}
-use borrow.Author.Tests.{ne-eqb, eqb-true, leb-true}
+use borrow.Author.Tests.{ne-eqb, leb-true}
 use Rattle.words.specs.Words.{all}
 use Rattle.words.proofs.Lists.{split, and-true, every-at, all-head, all-at}
 use Rattle.settings.specs.declared.Settings.{Settings}
 use Rattle.layout.specs.Places.{node}
 use Rattle.layout.specs.Rows.{byRow}
-use Rattle.layout.proofs.NodeRows.{by-head, by-send, by-ack, by-task}
+use Rattle.layout.proofs.NodeRows.{by-send, by-task}
 use Rattle.queues.specs.Items.{live}
 use Rattle.sound.specs.Reading.{settingsIn, tableIn, sendItems, ackItems, taskItems}
 use Rattle.sound.specs.Letters.{endsWell, rightLength, wordsFrom, rightHeader, rightPlace, rightLetter}

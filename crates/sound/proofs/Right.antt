@@ -1,9 +1,8 @@
 -- A letter that ends well and has a right length: its chain, its words and each word as the functions on letters read them. Assumes nothing.
 use mathlib.Core.Path.{_≡_, refl, sym, ap, _∙_}
-use mathlib.Core.Bool.{Bool, true, false, cond, _&&_}
-use mathlib.Core.List.{List, [], _∷_, _++_}
-use mathlib.Core.Logic.{⊎-elim}
-use Prim.Native.Nat.{ℕ, zero, suc, _+_, _-_, _*_, _/_, _≤_, _<_}
+use mathlib.Core.Bool.{true, _&&_}
+use mathlib.Core.List.{List, _∷_}
+use Prim.Native.Nat.{ℕ, zero, suc, _+_, _-_, _/_, _≤_, _<_}
 use native.Mathlib.Nat.{le-div-iff-mul-le, div-mul-le-self}
 use native.Mathlib.Omega.{arith}
 use lib.Dec.{eqb, leb}
@@ -17,7 +16,6 @@ use Rattle.settings.specs.Range.{InRange}
 use Rattle.layout.specs.Numbers.{headerWords, greatestLength, lengthWord}
 use Rattle.layout.specs.Asked.{Stretch}
 use Rattle.blocks.specs.Chain.{needs, link, chain, after, list, text, Within}
-use Rattle.blocks.specs.Asked.{Block, Walks}
 use Rattle.letters.specs.Letter.{word, told, letter}
 use Rattle.letters.specs.Asked.{Lies}
 use Rattle.letters.proofs.Laws.{word-letter}

@@ -1,5 +1,5 @@
 -- The fourth rule of a sound memory: the postmen's positions.
-use mathlib.Core.Bool.{Bool, false, _&&_, not, cond}
+use mathlib.Core.Bool.{Bool, _&&_, not, cond}
 use mathlib.Core.List.{List, [], _∷_}
 use Prim.Native.Nat.{ℕ}
 use lib.Dec.{eqb, leb}

@@ -9,7 +9,7 @@ use Rattle.settings.specs.declared.Settings.{Settings}
 use Rattle.layout.specs.Places.{nodes, taskQueues, sendAt, ackAt, taskAt, gapWord, taskIds, node}
 use Rattle.tasks.specs.Table.{nodeOf, queueOf, isBound}
 use Rattle.queues.specs.declared.Kind.{Kind}
-use Rattle.queues.specs.Queue.{sendKind, ackKind, taskKind, start, items, itemAt, contents}
+use Rattle.queues.specs.Queue.{sendKind, ackKind, taskKind, start, items, itemAt}
 use Rattle.queues.specs.Items.{gapFlag}
 use Rattle.sound.specs.Reading.{tableIn, sendItems, ackItems, taskItems}
 

@@ -1,6 +1,6 @@
 -- The marks of the test are counts: the mark of a seat is how many of the ids so far sit there. Assumes nothing.
-use mathlib.Core.Path.{_≡_, refl, sym, ap, _∙_}
-use mathlib.Core.Bool.{Bool, true, false, cond, _&&_, _||_, not, false≢true}
+use mathlib.Core.Path.{_≡_, refl, sym, _∙_}
+use mathlib.Core.Bool.{Bool, true, false, cond, _&&_, _||_, not}
 use mathlib.Core.List.{List}
 use Prim.Native.Nat.{ℕ, zero, suc, _+_, _*_, _≤_, _<_}
 use native.Mathlib.Numerals.{add-one}
@@ -8,10 +8,10 @@ use native.Mathlib.Omega.{arith}
 use lib.Dec.{eqb, leb}
 use lib.ListN.{length, getD, set, replicate, getD-replicate, length-set}
 use lib.Seq.{getD-set-same, getD-set-other}
-use borrow.Author.Tests.{eq-eqb, ne-eqb, eqb-true, le-leb, lt-leb, leb-true}
+use borrow.Author.Tests.{eq-eqb, eqb-true, le-leb, lt-leb, leb-true}
 use Rattle.words.specs.Words.{every}
 use Rattle.words.specs.Count.{hit, sum}
-use Rattle.words.proofs.Lists.{split, same?, and-true, and-join, and-false, every-at, every-all, every-not}
+use Rattle.words.proofs.Lists.{split, same?, and-true, and-join, and-false, every-all, every-not}
 use Rattle.words.proofs.Count.{hit-self, hit-other, sum-le}
 use Rattle.layout.specs.Places.{taskIds}
 use Rattle.tasks.specs.Table.{nodeOf, queueOf, holdsNone, hasSeat, shareSeat, seated, apart}

@@ -9,18 +9,6 @@ use borrow.Author.Needs.{needs}
 use Rattle.layout.proofs.ack_at.Statement.{statement}
 use Rattle.layout.proofs.ack_at.Tie as tie
 
-add-result : tie.Need-add-result
-add-result c = search needs
-
-mul-result : tie.Need-mul-result
-mul-result c = search needs
-
-add-result-2 : tie.Need-add-result-2
-add-result-2 c = search needs
-
-add-result-3 : tie.Need-add-result-3
-add-result-3 c = search needs
-
 mul-result-2 : tie.Need-mul-result-2
 mul-result-2 c = omega (arith, product-most (c .before .before .args .k) (3 + c .before .before .args .s .a) 6 258 (omega arith) (omega arith))
 
@@ -34,4 +22,4 @@ returns c = record { is = refl; fits = ack-fits (c .before .before .args .s) (c 
 pub ack-at-spec : {M : Type 1} → statement M
 ack-at-spec =
     tie.close
-    (tie.spec add-result mul-result add-result-2 add-result-3 mul-result-2 add-result-4 returns)
+    (tie.spec (λ c. search needs) (λ c. search needs) (λ c. search needs) (λ c. search needs) mul-result-2 add-result-4 returns)

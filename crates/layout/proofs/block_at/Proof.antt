@@ -9,36 +9,6 @@ use borrow.Author.Needs.{needs}
 use Rattle.layout.proofs.block_at.Statement.{statement}
 use Rattle.layout.proofs.block_at.Tie as tie
 
-add-result : tie.Need-add-result
-add-result c = search needs
-
-mul-result : tie.Need-mul-result
-mul-result c = search needs
-
-add-result-2 : tie.Need-add-result-2
-add-result-2 c = search needs
-
-add-result-3 : tie.Need-add-result-3
-add-result-3 c = search needs
-
-mul-result-2 : tie.Need-mul-result-2
-mul-result-2 c = search needs
-
-add-result-4 : tie.Need-add-result-4
-add-result-4 c = search needs
-
-add-result-5 : tie.Need-add-result-5
-add-result-5 c = search needs
-
-mul-result-3 : tie.Need-mul-result-3
-mul-result-3 c = search needs
-
-add-result-6 : tie.Need-add-result-6
-add-result-6 c = search needs
-
-sub-result : tie.Need-sub-result
-sub-result c = search needs
-
 mul-result-4 : tie.Need-mul-result-4
 mul-result-4 c = omega (arith, product-most (c .before .before .before .before .args .b - 1) (c .before .before .before .before .args .s .b) 1024 64 (omega arith) (omega arith))
 
@@ -53,16 +23,16 @@ pub block-at-spec : {M : Type 1} → statement M
 block-at-spec =
     tie.close
     (tie.spec
-    add-result
-    mul-result
-    add-result-2
-    add-result-3
-    mul-result-2
-    add-result-4
-    add-result-5
-    mul-result-3
-    add-result-6
-    sub-result
+    (λ c. search needs)
+    (λ c. search needs)
+    (λ c. search needs)
+    (λ c. search needs)
+    (λ c. search needs)
+    (λ c. search needs)
+    (λ c. search needs)
+    (λ c. search needs)
+    (λ c. search needs)
+    (λ c. search needs)
     mul-result-4
     add-result-7
     returns)

@@ -8,9 +8,6 @@ use borrow.Author.Needs.{needs}
 use Rattle.layout.proofs.node_at.Statement.{statement}
 use Rattle.layout.proofs.node_at.Tie as tie
 
-node-size-requires : tie.Need-node-size-requires
-node-size-requires c κs = search needs
-
 mul-result : tie.Need-mul-result
 mul-result c = omega (arith, product-most (c .before .args .i) (c .node-size .result) 6 85274 (omega arith) (omega arith))
 
@@ -22,4 +19,4 @@ unfolding nodeAt
 returns c = let e = c .node-size .ensures .is in rw e (record { is = refl; fits = stretch-fits (c .before .args .s) (c .before .args .i) (omega arith) })
 
 pub node-at-spec : {M : Type 1} → statement M
-node-at-spec = tie.close (tie.spec node-size-requires mul-result add-result returns)
+node-at-spec = tie.close (tie.spec (λ c κs. search needs) mul-result add-result returns)

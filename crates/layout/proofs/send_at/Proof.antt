@@ -9,9 +9,6 @@ use borrow.Author.Needs.{needs}
 use Rattle.layout.proofs.send_at.Statement.{statement}
 use Rattle.layout.proofs.send_at.Tie as tie
 
-add-result : tie.Need-add-result
-add-result c = search needs
-
 mul-result : tie.Need-mul-result
 mul-result c = omega (arith, product-most (c .before .args .k) (3 + c .before .args .s .s) 6 258 (omega arith) (omega arith))
 
@@ -23,4 +20,4 @@ unfolding sendAt
 returns c = record { is = refl; fits = send-fits (c .before .args .s) (c .before .args .k) (omega arith) }
 
 pub send-at-spec : {M : Type 1} → statement M
-send-at-spec = tie.close (tie.spec add-result mul-result add-result-2 returns)
+send-at-spec = tie.close (tie.spec (λ c. search needs) mul-result add-result-2 returns)

@@ -21,7 +21,7 @@ same-length : tie.Need-same-length
 same-length c = search needs
 
 returns : tie.Need-returns
-returns c = let x = c .before .before .before .before .before .before .before in copied-side (x .args .s) (x .args .memory .now) (x .args .n) (x .args .i) (x .args .b) (x .args .j) (x .args .c) _ (x .pre) refl _ (c .before .before .before .copy-through .ensures)
+returns c = let x = c .before .before .before .before .before .before .before in copied-side (x .args .s) (x .args .memory .now) (x .args .n) (x .args .i) (x .args .b) (x .args .j) (x .args .c) _ (x .pre) refl _ (c .before .before .before .copy-through .ensures .0)
 
 pub copy-spec : {M : Type 1} → statement M
 copy-spec =

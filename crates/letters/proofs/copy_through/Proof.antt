@@ -1,7 +1,7 @@
 -- `letters::copy_through` meets its contract. Assumes nothing.
 use native.Mathlib.Omega.{arith}
 use lib.ListN.{length}
-use Rattle.letters.proofs.Steps.{lies-part, copied-is}
+use Rattle.letters.proofs.Steps.{lies-part, side-is, copied-is}
 use borrow.Author.Needs.{needs}
 use Rattle.letters.proofs.copy_through.Statement.{statement}
 use Rattle.letters.proofs.copy_through.Tie as tie
@@ -64,8 +64,11 @@ same-length-2 c = search needs
 returns : tie.Need-returns
 returns c =
     let x = c .before .before .before .before .before .before .before .before .before .before .before .before .before .before .before .before in
-    copied-is (x .args .s) (x .args .memory .now) _ (c .before .before .before .before .before .before .before .before .before .before .before .before .before .node-size .ensures .is) (length (x .args .side .now)) (x .args .i) (x .args .b) (x .args .j) (x .args .c) _ _ _ _
-    (c .before .before .before .before .before .before .before .before .before .before .before .before .node-at .ensures .is) (c .before .before .before .before .before .node-at2 .ensures .is) (c .before .before .before .before .before .before .before .before .read .ensures) (c .before .before .write .ensures)
+    let z = c .before .before .before .before .before .before .before .before .before .before .before .before .before .node-size .ensures .is in
+    let a = c .before .before .before .before .before .before .before .before .before .before .before .before .node-at .ensures .is in (
+      copied-is (x .args .s) (x .args .memory .now) _ z (length (x .args .side .now)) (x .args .i) (x .args .b) (x .args .j) (x .args .c) _ _ _ _ a (c .before .before .before .before .before .node-at2 .ensures .is) (c .before .before .before .before .before .before .before .before .read .ensures) (c .before .before .write .ensures),
+      side-is (x .args .s) (x .args .memory .now) _ z (length (x .args .side .now)) (x .args .i) (x .args .b) _ _ a (c .before .before .before .before .before .before .before .before .read .ensures),
+    )
 
 pub copy-through-spec : {M : Type 1} → statement M
 copy-through-spec =

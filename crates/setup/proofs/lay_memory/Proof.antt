@@ -8,35 +8,11 @@ use borrow.Author.Needs.{needs}
 use Rattle.setup.proofs.lay_memory.Statement.{statement}
 use Rattle.setup.proofs.lay_memory.Tie as tie
 
-sub-lay-head : tie.Need-sub-lay-head
-sub-lay-head c = search needs
-
-part-lay-head-start : tie.Need-part-lay-head-start
-part-lay-head-start c = search needs
-
 part-lay-head-end : tie.Need-part-lay-head-end
 part-lay-head-end c = omega (arith, nodes-fit (c .before .before .args .s), c .before .before .pre .0 .long)
 
-lay-head-requires : tie.Need-lay-head-requires
-lay-head-requires c κs = search needs
-
-sub-copy : tie.Need-sub-copy
-sub-copy c = search needs
-
-part-copy-start : tie.Need-part-copy-start
-part-copy-start c = search needs
-
 part-copy-end : tie.Need-part-copy-end
 part-copy-end c = omega (arith, nodes-fit (c .before .before .before .before .before .before .args .s), c .before .before .before .before .before .before .pre .0 .long, same-len-mid 0 (24 - 0) (c .before .before .before .before .before .before .args .memory .now) (c .before .before .lay-head .last .0) (c .before .before .lay-head .kept .0))
-
-copy-requires : tie.Need-copy-requires
-copy-requires c κs = search needs
-
-lay-nodes-requires : tie.Need-lay-nodes-requires
-lay-nodes-requires c κs = search needs
-
-same-length : tie.Need-same-length
-same-length c = search needs
 
 returns : tie.Need-returns
 returns c = memory-back (c .before .before .before .before .before .before .before .before .before .before .before .before .before .before .args .s) (c .before .before .before .before .before .before .before .before .before .before .before .before .before .before .pre .0 .range) (c .before .before .before .before .before .before .before .before .before .before .before .before .before .before .args .memory .now) (c .before .before .before .before .before .before .before .before .before .before .lay-head .last .0) (c .before .before .before .before .before .before .copy .last .0) _ (c .before .before .before .before .before .before .before .before .before .before .before .before .before .before .args .table .now) (omega (arith, nodes-fit (c .before .before .before .before .before .before .before .before .before .before .before .before .before .before .args .s), c .before .before .before .before .before .before .before .before .before .before .before .before .before .before .pre .0 .long)) (c .before .before .before .before .before .before .before .before .before .before .before .before .before .before .pre .1) (c .before .before .before .before .before .before .before .before .before .before .lay-head .ensures) (c .before .before .before .before .before .before .copy .ensures) (c .before .before .lay-nodes .ensures)
@@ -45,14 +21,14 @@ pub lay-memory-spec : {M : Type 1} → statement M
 lay-memory-spec =
     tie.close
     (tie.spec
-    sub-lay-head
-    part-lay-head-start
+    (λ c. search needs)
+    (λ c. search needs)
     part-lay-head-end
-    lay-head-requires
-    sub-copy
-    part-copy-start
+    (λ c κs. search needs)
+    (λ c. search needs)
+    (λ c. search needs)
     part-copy-end
-    copy-requires
-    lay-nodes-requires
-    same-length
+    (λ c κs. search needs)
+    (λ c κs. search needs)
+    (λ c. search needs)
     returns)

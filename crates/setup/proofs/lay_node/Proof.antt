@@ -1,14 +1,13 @@
 use Prim.Native.Nat.{ℕ, _≤_, _-_, _+_}
 use borrow.Rule.Slice.PartMut.{same-len-mid}
-use Rattle.words.proofs.Parts.{back, length-part}
+use Rattle.words.proofs.Parts.{length-part}
 use Rattle.setup.proofs.Laws.{block-positive, front-back, block-back}
 -- `setup::lay_node` meets its contract: after b turns the front and b blocks are laid. Assumes nothing.
-use mathlib.Core.Path.{_≡_, refl, sym, ap, _∙_}
+use mathlib.Core.Path.{_≡_, refl, _∙_}
 use native.Mathlib.Omega.{arith}
 use lib.ListN.{length}
 use borrow.Author.Needs.{needs}
-use Rattle.layout.specs.Places.{nodeSize, blocksAt, blockAt}
-use Rattle.setup.proofs.Laws.{laidBlocks, blocks-none, blocks-more, blocks-all}
+use Rattle.setup.proofs.Laws.{laidBlocks, blocks-none, blocks-all}
 use Rattle.setup.proofs.lay_node.Statement.{statement}
 use Rattle.setup.proofs.lay_node.Tie as tie
 
@@ -17,18 +16,6 @@ Inv-loop node₀ s front words b₀ node b = (b ≤ s .m) × (length node ≡ le
 
 abbrev μ-loop : tie.MeasureT-loop
 μ-loop node₀ s front words b₀ node b = s .m - b
-
-block-at-requires : tie.Need-block-at-requires Inv-loop μ-loop
-block-at-requires c κs = search needs
-
-sub-lay-front : tie.Need-sub-lay-front Inv-loop μ-loop
-sub-lay-front c = search needs
-
-part-lay-front-start : tie.Need-part-lay-front-start Inv-loop μ-loop
-part-lay-front-start c = search needs
-
-part-lay-front-end : tie.Need-part-lay-front-end Inv-loop μ-loop
-part-lay-front-end c = search needs
 
 lay-front-requires : tie.Need-lay-front-requires Inv-loop μ-loop
 lay-front-requires c κs = let x = c .before .before .before in let e = c .before .block-at .ensures in rw (length-part (x .args .node .now) 0 (c .before .block-at .result) (omega arith) (omega arith)) (block-positive (x .args .s) _ (e .is))
@@ -43,38 +30,11 @@ loop-holds c =
           (front-back (x .args .s) (x .pre .range) (x .args .node .now) _ (c .before .before .before .before .block-at .result) (e .is) (omega arith) (c .before .before .lay-front .ensures)),
     )
 
-add-b : tie.Need-add-b Inv-loop μ-loop
-add-b c = search needs
-
-block-at-requires-2 : tie.Need-block-at-requires-2 Inv-loop μ-loop
-block-at-requires-2 c κs = search needs
-
-add-end : tie.Need-add-end Inv-loop μ-loop
-add-end c = search needs
-
-mul-lay-block : tie.Need-mul-lay-block Inv-loop μ-loop
-mul-lay-block c = search needs
-
-sub-lay-block : tie.Need-sub-lay-block Inv-loop μ-loop
-sub-lay-block c = search needs
-
-part-lay-block-start : tie.Need-part-lay-block-start Inv-loop μ-loop
-part-lay-block-start c = search needs
-
-part-lay-block-end : tie.Need-part-lay-block-end Inv-loop μ-loop
-part-lay-block-end c = search needs
-
-next-free-requires : tie.Need-next-free-requires Inv-loop μ-loop
-next-free-requires c κs = search needs
-
 lay-block-requires : tie.Need-lay-block-requires Inv-loop μ-loop
 lay-block-requires c κs =
     let f : ℕ = c .before .before .block-at2 .result in
     let w : ℕ = c .before .before .before .before .before .before .before .before .before .before .before .before .args .s .b in
     rw (length-part (c .before .before .before .before .before .loop .node) f (f + w) (omega arith) (omega arith)) (omega arith)
-
-loop-less : tie.Need-loop-less Inv-loop μ-loop
-loop-less c = search needs
 
 loop-again : tie.Need-loop-again Inv-loop μ-loop
 loop-again c =
@@ -86,9 +46,6 @@ loop-again c =
       same-len-mid (e5 .result) (e5 .result + x .args .s .b - e5 .result) (l .node) (c .before .before .lay-block .last .0) (c .before .before .lay-block .kept .0) ∙ l .inv .1,
       block-back (x .args .s) (x .pre .range) _ (l .node) (c .before .before .lay-block .last .0) (l .b) (e5 .result) (c .before .before .before .next-free .result) (e .is) (omega arith) (c .before .before .before .next-free .ensures) (l .inv .2) (c .before .before .lay-block .ensures),
     )
-
-same-length : tie.Need-same-length Inv-loop μ-loop
-same-length c = search needs
 
 returns : tie.Need-returns Inv-loop μ-loop
 returns c =
@@ -103,22 +60,22 @@ lay-node-spec =
     (tie.spec
     Inv-loop
     μ-loop
-    block-at-requires
-    sub-lay-front
-    part-lay-front-start
-    part-lay-front-end
+    (λ c κs. search needs)
+    (λ c. search needs)
+    (λ c. search needs)
+    (λ c. search needs)
     lay-front-requires
     loop-holds
-    add-b
-    block-at-requires-2
-    add-end
-    mul-lay-block
-    sub-lay-block
-    part-lay-block-start
-    part-lay-block-end
-    next-free-requires
+    (λ c. search needs)
+    (λ c κs. search needs)
+    (λ c. search needs)
+    (λ c. search needs)
+    (λ c. search needs)
+    (λ c. search needs)
+    (λ c. search needs)
+    (λ c κs. search needs)
     lay-block-requires
-    loop-less
+    (λ c. search needs)
     loop-again
-    same-length
+    (λ c. search needs)
     returns)

@@ -1,6 +1,6 @@
 use Rattle.layout.proofs.Fits.{nodes-fit}
 -- `setup::lay_nodes` meets its contract: after i turns i stretches are laid. Assumes nothing.
-use mathlib.Core.Path.{_≡_, refl, sym, ap, _∙_}
+use mathlib.Core.Path.{_≡_, refl, _∙_}
 use Prim.Native.Nat.{ℕ, _≤_, _-_, _+_}
 use native.Mathlib.Omega.{arith}
 use lib.ListN.{length, take}
@@ -8,7 +8,7 @@ use lib.Seq.{length-take-le}
 use borrow.Author.Needs.{needs}
 use borrow.Rule.Slice.PartMut.{same-len-mid}
 use Rattle.words.proofs.Parts.{length-part}
-use Rattle.layout.specs.Places.{nodesAt, nodeSize, memorySize}
+use Rattle.layout.specs.Places.{nodesAt}
 use Rattle.setup.proofs.Laws.{laidNodes, nodes-none, nodes-all, node-back}
 use Rattle.setup.proofs.lay_nodes.Statement.{statement}
 use Rattle.setup.proofs.lay_nodes.Tie as tie
@@ -19,29 +19,8 @@ Inv-loop memory₀ s words i₀ memory i = (i ≤ 6) × (length memory ≡ lengt
 abbrev μ-loop : tie.MeasureT-loop
 μ-loop memory₀ s words i₀ memory i = 6 - i
 
-node-size-requires : tie.Need-node-size-requires Inv-loop μ-loop
-node-size-requires c κs = search needs
-
 loop-holds : tie.Need-loop-holds Inv-loop μ-loop
 loop-holds c = (search needs, refl, nodes-none (c .before .before .args .s) (c .before .before .pre .range) (c .before .before .args .memory .now))
-
-node-at-requires : tie.Need-node-at-requires Inv-loop μ-loop
-node-at-requires c κs = search needs
-
-add-end : tie.Need-add-end Inv-loop μ-loop
-add-end c = search needs
-
-mul-lay-node : tie.Need-mul-lay-node Inv-loop μ-loop
-mul-lay-node c = search needs
-
-sub-lay-node : tie.Need-sub-lay-node Inv-loop μ-loop
-sub-lay-node c = search needs
-
-part-lay-node-start : tie.Need-part-lay-node-start Inv-loop μ-loop
-part-lay-node-start c = search needs
-
-part-lay-node-end : tie.Need-part-lay-node-end Inv-loop μ-loop
-part-lay-node-end c = search needs
 
 lay-node-requires : tie.Need-lay-node-requires Inv-loop μ-loop
 lay-node-requires c κs =
@@ -51,12 +30,6 @@ lay-node-requires c κs =
     let e = c .before .node-at .ensures in
     let f = c .before .before .before .before .node-size .ensures in
     record { range = x .pre .range; long = length-part (c .before .before .before .loop .memory) a (a + n) (omega arith) (omega arith) ∙ omega arith }
-
-add-i : tie.Need-add-i Inv-loop μ-loop
-add-i c = search needs
-
-loop-less : tie.Need-loop-less Inv-loop μ-loop
-loop-less c = search needs
 
 loop-again : tie.Need-loop-again Inv-loop μ-loop
 loop-again c =
@@ -69,9 +42,6 @@ loop-again c =
       node-back (x .args .s) (x .pre .range) (take nodesAt (x .args .memory .now)) (x .args .memory .now) (l .memory) (c .before .before .lay-node .last .0) (l .i) a n
           (c .before .before .before .before .node-at .ensures .is) (c .before .before .before .before .before .before .before .node-size .ensures .is) (length-take-le 536 (x .args .memory .now) (omega (arith, nodes-fit (x .args .s)))) (l .inv .2) (c .before .before .lay-node .ensures),
     )
-
-same-length : tie.Need-same-length Inv-loop μ-loop
-same-length c = search needs
 
 returns : tie.Need-returns Inv-loop μ-loop
 returns c =
@@ -86,17 +56,17 @@ lay-nodes-spec =
     (tie.spec
     Inv-loop
     μ-loop
-    node-size-requires
+    (λ c κs. search needs)
     loop-holds
-    node-at-requires
-    add-end
-    mul-lay-node
-    sub-lay-node
-    part-lay-node-start
-    part-lay-node-end
+    (λ c κs. search needs)
+    (λ c. search needs)
+    (λ c. search needs)
+    (λ c. search needs)
+    (λ c. search needs)
+    (λ c. search needs)
     lay-node-requires
-    add-i
-    loop-less
+    (λ c. search needs)
+    (λ c. search needs)
     loop-again
-    same-length
+    (λ c. search needs)
     returns)

@@ -7,27 +7,14 @@ use Rattle.layout.specs.Places.{memorySize}
 use Rattle.tasks.proofs.Laws.{right-length}
 use Rattle.setup.specs.Fresh.{freshMemory}
 use Rattle.setup.proofs.Outcomes.{out-setting, out-table, out-size, out-done}
-use Prim.Native.Nat.{ℕ}
 use borrow.Author.Needs.{needs}
 use Rattle.setup.proofs.set_up.Statement.{statement}
 use Rattle.setup.proofs.set_up.Tie as tie
-
-new-requires : tie.Need-new-requires
-new-requires c κs = search needs
-
-enum-known-settings : tie.Need-enum-known-settings
-enum-known-settings c = search needs
-
-enum-told : tie.Need-enum-told
-enum-told c = search needs
 
 returns : tie.Need-returns
 returns c =
     let x = c .before .before .before .before .before .args in
     out-setting (settingsOf (c .before .before .before .before .before .args .b) (c .before .before .before .before .before .args .m) (c .before .before .before .before .before .args .s) (c .before .before .before .before .before .args .a) (c .before .before .before .before .before .args .t)) (c .before .before .before .before .before .args .table .now) (c .before .before .before .before .before .args .memory .now) (told-refused (x .b) (x .m) (x .s) (x .a) (x .t) (sym (c .before .before .new .ensures) ∙ c .enum-told .given .1))
-
-is-right-requires : tie.Need-is-right-requires
-is-right-requires c κs = search needs
 
 returns-2 : tie.Need-returns-2
 returns-2 c =
@@ -52,9 +39,6 @@ lay-memory-requires c κs =
       right-length _ (sym (c .before .before .before .before .is-right .ensures) ∙ not-false _ (c .before .before .before .if1 .left)),
     )
 
-same-length : tie.Need-same-length
-same-length c = search needs
-
 returns-4 : tie.Need-returns-4
 returns-4 c =
     let k = told-made (c .before .before .before .before .before .before .before .before .before .before .before .before .before .before .args .b) (c .before .before .before .before .before .before .before .before .before .before .before .before .before .before .args .m) (c .before .before .before .before .before .before .before .before .before .before .before .before .before .before .args .s) (c .before .before .before .before .before .before .before .before .before .before .before .before .before .before .args .a) (c .before .before .before .before .before .before .before .before .before .before .before .before .before .before .args .t) (c .before .before .before .before .before .before .before .before .before .settings .given .0 .0) (sym (c .before .before .before .before .before .before .before .before .before .before .before .new .ensures) ∙ c .before .before .before .before .before .before .before .before .before .settings .given .1) in
@@ -65,14 +49,14 @@ pub set-up-spec : {M : Type 1} → statement M
 set-up-spec =
     tie.close
     (tie.spec
-    new-requires
-    enum-known-settings
-    enum-told
+    (λ c κs. search needs)
+    (λ c. search needs)
+    (λ c. search needs)
     returns
-    is-right-requires
+    (λ c κs. search needs)
     returns-2
     memory-size-requires
     returns-3
     lay-memory-requires
-    same-length
+    (λ c. search needs)
     returns-4)

@@ -1,16 +1,13 @@
 -- `tasks::are_apart` meets its contract: the marks count who sits where. Assumes nothing.
 use mathlib.Core.Path.{_≡_, sym, _∙_}
 use mathlib.Core.Logic.{⊎-elim}
-use Prim.Native.Nat.{_≤_, _-_, _+_}
+use Prim.Native.Nat.{_≤_, _-_}
 use native.Mathlib.Omega.{arith}
 use borrow.Author.Needs.{needs}
 use borrow.Author.Tests.{not-true, not-false}
 use Rattle.tasks.proofs.Marks.{Good, good-start, good-none, good-seat, bad-seat, bad-range, bad-node, bad-queue, good-end}
 use Rattle.tasks.proofs.are_apart.Statement.{statement}
 use Rattle.tasks.proofs.are_apart.Tie as tie
-use Rattle.tasks.proofs.are_apart.Reads as reads
-use Rattle.tasks.proofs.are_apart.Lts as lts
-use Rattle.tasks.proofs.holds_none.Reads as holds-none-reads
 
 abbrev Inv-loop : tie.InvT-loop
 Inv-loop table marks₀ id₀ marks id = (id ≤ 256) × Good table id marks
@@ -21,68 +18,14 @@ abbrev μ-loop : tie.MeasureT-loop
 loop-holds : tie.Need-loop-holds Inv-loop μ-loop
 loop-holds c = (search needs, good-start _)
 
-holds-none-requires : tie.Need-holds-none-requires Inv-loop μ-loop
-holds-none-requires c κs = search needs
-
-mul-node : tie.Need-mul-node Inv-loop μ-loop
-mul-node c = search needs
-
-mul-node-2 : tie.Need-mul-node-2 Inv-loop μ-loop
-mul-node-2 c = search needs
-
-shared-slice-read-node : tie.Need-shared-slice-read-node Inv-loop μ-loop
-shared-slice-read-node c = search needs
-
-mul-queue : tie.Need-mul-queue Inv-loop μ-loop
-mul-queue c = search needs
-
-add-queue : tie.Need-add-queue Inv-loop μ-loop
-add-queue c = search needs
-
-mul-queue-2 : tie.Need-mul-queue-2 Inv-loop μ-loop
-mul-queue-2 c = search needs
-
-shared-slice-read-queue : tie.Need-shared-slice-read-queue Inv-loop μ-loop
-shared-slice-read-queue c = search needs
-
 returns : tie.Need-returns Inv-loop μ-loop
 returns c = bad-range _ _ _ (c .before .before .before .before .before .before .loop .inv .1) (sym (c .before .before .before .before .holds-none .ensures) ∙ not-true _ (c .before .before .before .if1 .taken)) (omega arith) (bad-node _ _ (c .if2 .taken))
 
 returns-2 : tie.Need-returns-2 Inv-loop μ-loop
 returns-2 c = bad-range _ _ _ (c .before .before .before .before .before .before .before .loop .inv .1) (sym (c .before .before .before .before .before .holds-none .ensures) ∙ not-true _ (c .before .before .before .before .if1 .taken)) (omega arith) (bad-queue _ _ (c .if3 .taken))
 
-cast-seat : tie.Need-cast-seat Inv-loop μ-loop
-cast-seat c = search needs
-
-mul-seat : tie.Need-mul-seat Inv-loop μ-loop
-mul-seat c = search needs
-
-cast-seat-2 : tie.Need-cast-seat-2 Inv-loop μ-loop
-cast-seat-2 c = search needs
-
-add-seat : tie.Need-add-seat Inv-loop μ-loop
-add-seat c = search needs
-
-mul-if4 : tie.Need-mul-if4 Inv-loop μ-loop
-mul-if4 c = search needs
-
-array-read-if4 : tie.Need-array-read-if4 Inv-loop μ-loop
-array-read-if4 c = search needs
-
 returns-3 : tie.Need-returns-3 Inv-loop μ-loop
 returns-3 c = bad-seat _ _ _ (c .before .before .before .before .before .before .before .before .loop .inv .1) (sym (c .before .before .before .before .before .before .holds-none .ensures) ∙ not-true _ (c .before .before .before .before .before .if1 .taken)) (c .before .before .if2 .left) (c .before .if3 .left) (omega arith) (c .if4 .taken)
-
-mul-marks : tie.Need-mul-marks Inv-loop μ-loop
-mul-marks c = search needs
-
-array-write-marks : tie.Need-array-write-marks Inv-loop μ-loop
-array-write-marks c = search needs
-
-add-id : tie.Need-add-id Inv-loop μ-loop
-add-id c = search needs
-
-loop-less : tie.Need-loop-less Inv-loop μ-loop
-loop-less c = search needs
 
 loop-again : tie.Need-loop-again Inv-loop μ-loop
 loop-again c =
@@ -104,26 +47,26 @@ are-apart-spec =
     Inv-loop
     μ-loop
     loop-holds
-    holds-none-requires
-    mul-node
-    mul-node-2
-    shared-slice-read-node
-    mul-queue
-    add-queue
-    mul-queue-2
-    shared-slice-read-queue
+    (λ c κs. search needs)
+    (λ c. search needs)
+    (λ c. search needs)
+    (λ c. search needs)
+    (λ c. search needs)
+    (λ c. search needs)
+    (λ c. search needs)
+    (λ c. search needs)
     returns
     returns-2
-    cast-seat
-    mul-seat
-    cast-seat-2
-    add-seat
-    mul-if4
-    array-read-if4
+    (λ c. search needs)
+    (λ c. search needs)
+    (λ c. search needs)
+    (λ c. search needs)
+    (λ c. search needs)
+    (λ c. search needs)
     returns-3
-    mul-marks
-    array-write-marks
-    add-id
-    loop-less
+    (λ c. search needs)
+    (λ c. search needs)
+    (λ c. search needs)
+    (λ c. search needs)
     loop-again
     returns-4)

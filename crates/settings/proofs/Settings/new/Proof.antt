@@ -1,5 +1,4 @@
 -- `settings::Settings::new` meets its contract: the first setting that is out of range refuses. Assumes nothing.
-use mathlib.Core.Path.{_≡_}
 use Rattle.words.proofs.Lists.{told-no, told-yes}
 use Rattle.settings.proofs.Laws.{refused-b, refused-m, refused-s, refused-a, refused-t, made-all}
 use Rattle.settings.proofs.Told.{apart-b, apart-m, apart-s, apart-a, apart-t, value-b, value-m, value-s, value-a, value-t}
@@ -13,62 +12,17 @@ use borrow.Author.Needs.{needs}
 use Rattle.settings.proofs.Settings.new.Statement.{statement}
 use Rattle.settings.proofs.Settings.new.Tie as tie
 
-new-requires : tie.Need-new-requires
-new-requires c κs = search needs
-
-enum-known-words : tie.Need-enum-known-words
-enum-known-words c = search needs
-
-enum-told : tie.Need-enum-told
-enum-told c = search needs
-
 returns : tie.Need-returns
 returns c = refused-b _ _ _ _ _ (told-no _ _ _ _ (c .before .before .new .ensures) (apart-b _) (c .enum-told .given .1))
-
-new-requires-2 : tie.Need-new-requires-2
-new-requires-2 c κs = search needs
-
-enum-known-blocks : tie.Need-enum-known-blocks
-enum-known-blocks c = search needs
-
-enum-told-2 : tie.Need-enum-told-2
-enum-told-2 c = search needs
 
 returns-2 : tie.Need-returns-2
 returns-2 c = refused-m _ _ _ _ _ (told-yes _ _ _ _ (c .before .before .before .before .before .before .new .ensures) _ (apart-b _) (c .before .before .before .before .words .given .1) .0) (told-no _ _ _ _ (c .before .before .new2 .ensures) (apart-m _) (c .enum-told2 .given .1))
 
-new-requires-3 : tie.Need-new-requires-3
-new-requires-3 c κs = search needs
-
-enum-known-send : tie.Need-enum-known-send
-enum-known-send c = search needs
-
-enum-told-3 : tie.Need-enum-told-3
-enum-told-3 c = search needs
-
 returns-3 : tie.Need-returns-3
 returns-3 c = refused-s _ _ _ _ _ (told-yes _ _ _ _ (c .before .before .before .before .before .before .before .before .before .before .new .ensures) _ (apart-b _) (c .before .before .before .before .before .before .before .before .words .given .1) .0) (told-yes _ _ _ _ (c .before .before .before .before .before .before .new2 .ensures) _ (apart-m _) (c .before .before .before .before .blocks2 .given .1) .0) (told-no _ _ _ _ (c .before .before .new3 .ensures) (apart-s _) (c .enum-told3 .given .1))
 
-new-requires-4 : tie.Need-new-requires-4
-new-requires-4 c κs = search needs
-
-enum-known-acknowledge : tie.Need-enum-known-acknowledge
-enum-known-acknowledge c = search needs
-
-enum-told-4 : tie.Need-enum-told-4
-enum-told-4 c = search needs
-
 returns-4 : tie.Need-returns-4
 returns-4 c = refused-a _ _ _ _ _ (told-yes _ _ _ _ (c .before .before .before .before .before .before .before .before .before .before .before .before .before .before .new .ensures) _ (apart-b _) (c .before .before .before .before .before .before .before .before .before .before .before .before .words .given .1) .0) (told-yes _ _ _ _ (c .before .before .before .before .before .before .before .before .before .before .new2 .ensures) _ (apart-m _) (c .before .before .before .before .before .before .before .before .blocks2 .given .1) .0) (told-yes _ _ _ _ (c .before .before .before .before .before .before .new3 .ensures) _ (apart-s _) (c .before .before .before .before .send .given .1) .0) (told-no _ _ _ _ (c .before .before .new4 .ensures) (apart-a _) (c .enum-told4 .given .1))
-
-new-requires-5 : tie.Need-new-requires-5
-new-requires-5 c κs = search needs
-
-enum-known-task : tie.Need-enum-known-task
-enum-known-task c = search needs
-
-enum-told-5 : tie.Need-enum-told-5
-enum-told-5 c = search needs
 
 returns-5 : tie.Need-returns-5
 returns-5 c = refused-t _ _ _ _ _ (told-yes _ _ _ _ (c .before .before .before .before .before .before .before .before .before .before .before .before .before .before .before .before .before .before .new .ensures) _ (apart-b _) (c .before .before .before .before .before .before .before .before .before .before .before .before .before .before .before .before .words .given .1) .0) (told-yes _ _ _ _ (c .before .before .before .before .before .before .before .before .before .before .before .before .before .before .new2 .ensures) _ (apart-m _) (c .before .before .before .before .before .before .before .before .before .before .before .before .blocks2 .given .1) .0) (told-yes _ _ _ _ (c .before .before .before .before .before .before .before .before .before .before .new3 .ensures) _ (apart-s _) (c .before .before .before .before .before .before .before .before .send .given .1) .0) (told-yes _ _ _ _ (c .before .before .before .before .before .before .new4 .ensures) _ (apart-a _) (c .before .before .before .before .acknowledge .given .1) .0) (told-no _ _ _ _ (c .before .before .new5 .ensures) (apart-t _) (c .enum-told5 .given .1))
@@ -92,24 +46,24 @@ pub new-spec : {M : Type 1} → statement M
 new-spec =
     tie.close
     (tie.spec
-    new-requires
-    enum-known-words
-    enum-told
+    (λ c κs. search needs)
+    (λ c. search needs)
+    (λ c. search needs)
     returns
-    new-requires-2
-    enum-known-blocks
-    enum-told-2
+    (λ c κs. search needs)
+    (λ c. search needs)
+    (λ c. search needs)
     returns-2
-    new-requires-3
-    enum-known-send
-    enum-told-3
+    (λ c κs. search needs)
+    (λ c. search needs)
+    (λ c. search needs)
     returns-3
-    new-requires-4
-    enum-known-acknowledge
-    enum-told-4
+    (λ c κs. search needs)
+    (λ c. search needs)
+    (λ c. search needs)
     returns-4
-    new-requires-5
-    enum-known-task
-    enum-told-5
+    (λ c κs. search needs)
+    (λ c. search needs)
+    (λ c. search needs)
     returns-5
     returns-6)

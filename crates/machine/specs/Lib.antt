@@ -1,0 +1,5 @@
+pub mod Machine
+pub mod Spelled
+pub mod Core
+pub mod Represents
+pub mod Fresh

@@ -1,0 +1,5 @@
+pub mod Rows
+pub mod Core
+pub mod Chains
+pub mod Items
+pub mod Queues

@@ -1,0 +1,36 @@
+-- What a move makes of rows and nodes: one row put anew; letters between a place and the transit place; blocks between the free list and it.
+use mathlib.Core.List.{List, [], _∷_}
+use mathlib.Core.Bool.{cond}
+use Prim.Native.Nat.{ℕ, zero, suc}
+use lib.Dec.{eqb}
+use lib.ListN.{set}
+use Rattle.words.proofs.Lists.{put}
+use Rattle.machine.specs.Machine.{Letter, gap, first, Node, transit}
+
+-- row q of node j put anew
+unfoldable pub putRow : (ℕ → ℕ → List ℕ) → ℕ → ℕ → List ℕ → ℕ → ℕ → List ℕ
+putRow R j q w = put R j (put (R j) q w)
+
+-- the letters of place p are ls, and those on their way hs
+unfoldable pub moved : Node → ℕ → List Letter → List Letter → Node
+moved N p ls hs = record { free = N .free; letters = put (put (N .letters) p ls) transit hs }
+
+-- the free list is fr, and the letters on their way hs
+unfoldable pub freed : Node → List ℕ → List Letter → Node
+freed N fr hs = record { free = fr; letters = put (N .letters) transit hs }
+
+-- the letters that are no gaps, in their order
+unfoldable pub liveOnes : List Letter → List Letter
+liveOnes [] = []
+liveOnes (L ∷ ls) = cond (eqb (first L) 0) (liveOnes ls) (L ∷ liveOnes ls)
+
+-- the letters behind the gaps at the front
+unfoldable pub afterGaps : List Letter → List Letter
+afterGaps [] = []
+afterGaps (L ∷ ls) = cond (eqb (first L) 0) (afterGaps ls) (L ∷ ls)
+
+-- the letter at place i of a task queue taken out: the first with the gaps directly behind it, one further in leaves a gap
+unfoldable pub lettersWithout : ℕ → List Letter → List Letter
+lettersWithout i [] = []
+lettersWithout zero (L ∷ ls) = afterGaps ls
+lettersWithout (suc i) (L ∷ ls) = L ∷ set ls i gap
