@@ -1,10 +1,10 @@
 -- A whole letter as the functions on letters read it: its length, its body, the blocks it needs. Assumes nothing.
 use mathlib.Core.Path.{_≡_, refl, sym, ap, _∙_}
 use mathlib.Core.List.{List, _++_}
-use Prim.Native.Nat.{ℕ, _+_, _-_, _*_, _≤_, _<_}
+use Prim.Native.Nat.{ℕ, _+_, _-_, _*_, _≤_}
 use native.Mathlib.Nat.{zero-mul}
 use native.Mathlib.Omega.{arith}
-use lib.ListN.{length, getD, take, drop, length-drop, length-take}
+use lib.ListN.{length, getD, take, drop, length-drop}
 use lib.Seq.{length-take-le}
 use borrow.Rule.Slice.PartMut.{postOf, post-is}
 use Rattle.words.proofs.Lists.{same?}
@@ -12,7 +12,6 @@ use Rattle.settings.specs.declared.Settings.{Settings}
 use Rattle.settings.specs.Range.{InRange}
 use Rattle.layout.specs.Numbers.{headerWords, sourceTaskWord, greatestBody}
 use Rattle.blocks.specs.Chain.{needs, text, Within, chain}
-use Rattle.blocks.specs.Asked.{Walks}
 use Rattle.letters.specs.Letter.{word, told, letter, onto}
 use Rattle.letters.specs.Asked.{Lies}
 use Rattle.letters.proofs.Rows.{chain-long, needs-enough}
@@ -66,22 +65,22 @@ module _ (s : Settings) (w : List ℕ) (b : ℕ) (h : Whole s w b) where
       (omega (arith, least), ap (λ (k : ℕ). k - 5) f ∙ sym body-words)
 
   module _ {k : ℕ} (e : k ≡ length (drop headerWords (wordsFrom s w b))) where
-    pub whole : headerWords + k ≡ n
-    whole = omega (arith, body-words, least)
+    pub body-whole : headerWords + k ≡ n
+    body-whole = omega (arith, body-words, least)
 
     -- the words from any word of the header on
     pub lies-body : (a m : ℕ) → a ≤ headerWords → m ≡ k → Lies s w (a + m) b
-    lies-body a m l f = right-lies s w (h .stretch) b (h .ends) (h .long) (a + m) (omega (arith, whole))
+    lies-body a m l f = right-lies s w (h .stretch) b (h .ends) (h .long) (a + m) (omega (arith, body-whole))
 
     pub read-is : (m : ℕ) → m ≡ k → drop headerWords (letter s w (headerWords + m) b) ≡ drop headerWords (wordsFrom s w b)
     read-is m f =
-        let g : headerWords + m ≡ n = omega (arith, whole) in
+        let g : headerWords + m ≡ n = omega (arith, body-whole) in
         ap (λ (j : ℕ). drop 5 (letter s w j b)) g ∙ ap (drop 5) (right-letter s w (h .stretch) b (h .ends) (h .long))
 
     -- ---- the blocks
     pub owed-is : needs s (k + headerWords) ≡ length (chainFrom s w b)
     owed-is =
-        let g : k + headerWords ≡ n = omega (arith, whole) in
+        let g : k + headerWords ≡ n = omega (arith, body-whole) in
         ap (needs s) g ∙ sym (right-needs s w (h .stretch) b (h .ends) (h .long))
 
   -- the blocks of the letter's first words
