@@ -1,23 +1,30 @@
 -- A whole letter as the functions on letters read it: its length, its body, the blocks it needs. Assumes nothing.
 use mathlib.Core.Path.{_≡_, refl, sym, ap, _∙_}
 use mathlib.Core.List.{List, _++_}
-use Prim.Native.Nat.{ℕ, _+_, _-_, _*_, _≤_, _<_}
+use Prim.Native.Nat.{ℕ, _+_, _-_, _*_, _≤_}
 use native.Mathlib.Nat.{zero-mul}
 use native.Mathlib.Omega.{arith}
-use lib.ListN.{length, getD, take, drop, length-drop, length-take}
+use lib.ListN.{length, getD, take, drop, length-drop}
 use lib.Seq.{length-take-le}
 use borrow.Rule.Slice.PartMut.{postOf, post-is}
 use Rattle.words.proofs.Lists.{same?}
 use Rattle.settings.specs.declared.Settings.{Settings}
+use Rattle.settings.specs.Range.{InRange}
 use Rattle.layout.specs.Numbers.{headerWords, sourceTaskWord, greatestBody}
 use Rattle.blocks.specs.Chain.{needs, text, Within, chain}
-use Rattle.blocks.specs.Asked.{Walks}
 use Rattle.letters.specs.Letter.{word, told, letter, onto}
 use Rattle.letters.specs.Asked.{Lies}
 use Rattle.letters.proofs.Rows.{chain-long, needs-enough}
 use Rattle.sound.specs.Letters.{chainFrom, toldLength, wordsFrom}
 use Rattle.sound.proofs.Right.{right-least, right-most, right-needs, right-chain, right-within, right-lies, right-letter, right-word, right-told}
 use Rattle.receive.specs.Asked.{Whole, Fits}
+
+-- some words need a block
+pub needs-some : (s : Settings) → InRange s → (k : ℕ) → 1 ≤ k → 1 ≤ needs s k
+needs-some s r k h =
+    same? (needs s k) 0
+    (λ q t. let z : needs s k * (s .b - 1) ≡ 0 = ap (λ (j : ℕ). j * (s .b - 1)) q ∙ zero-mul (s .b - 1) in absurd (omega (arith, needs-enough s r k)))
+    (λ q t. omega arith)
 
 module _ (s : Settings) (w : List ℕ) (b : ℕ) (h : Whole s w b) where
   abbrev n : ℕ
@@ -58,40 +65,35 @@ module _ (s : Settings) (w : List ℕ) (b : ℕ) (h : Whole s w b) where
       (omega (arith, least), ap (λ (k : ℕ). k - 5) f ∙ sym body-words)
 
   module _ {k : ℕ} (e : k ≡ length (drop headerWords (wordsFrom s w b))) where
-    whole : headerWords + k ≡ n
-    whole = omega (arith, body-words, least)
+    pub body-whole : headerWords + k ≡ n
+    body-whole = omega (arith, body-words, least)
 
-    pub lies-body : (m : ℕ) → m ≡ k → Lies s w (headerWords + m) b
-    lies-body m f = right-lies s w (h .stretch) b (h .ends) (h .long) (5 + m) (omega (arith, whole))
+    -- the words from any word of the header on
+    pub lies-body : (a m : ℕ) → a ≤ headerWords → m ≡ k → Lies s w (a + m) b
+    lies-body a m l f = right-lies s w (h .stretch) b (h .ends) (h .long) (a + m) (omega (arith, body-whole))
 
     pub read-is : (m : ℕ) → m ≡ k → drop headerWords (letter s w (headerWords + m) b) ≡ drop headerWords (wordsFrom s w b)
     read-is m f =
-        let g : headerWords + m ≡ n = omega (arith, whole) in
+        let g : headerWords + m ≡ n = omega (arith, body-whole) in
         ap (λ (j : ℕ). drop 5 (letter s w j b)) g ∙ ap (drop 5) (right-letter s w (h .stretch) b (h .ends) (h .long))
 
     -- ---- the blocks
     pub owed-is : needs s (k + headerWords) ≡ length (chainFrom s w b)
     owed-is =
-        let g : k + headerWords ≡ n = omega (arith, whole) in
+        let g : k + headerWords ≡ n = omega (arith, body-whole) in
         ap (needs s) g ∙ sym (right-needs s w (h .stretch) b (h .ends) (h .long))
 
-  pub owed-some : 1 ≤ length (chainFrom s w b)
-  owed-some =
-      same? (needs s n) 0
-      (λ q t. let z : needs s n * (s .b - 1) ≡ 0 = ap (λ (k : ℕ). k * (s .b - 1)) q ∙ zero-mul (s .b - 1) in
-      absurd (omega (arith, needs-enough s (h .stretch .range) n, least)))
-      (λ q t. omega (arith, right-needs s w (h .stretch) b (h .ends) (h .long)))
-
-  pub owed-within : Within (s .m) (chain s w (length (chainFrom s w b)) b)
-  owed-within = rw (right-needs s w (h .stretch) b (h .ends) (h .long)) (right-within s w (h .stretch) b (h .ends) (h .long))
+  -- the blocks of the letter's first words
+  pub owed-within : (k : ℕ) → k ≤ n → Within (s .m) (chain s w (needs s k) b)
+  owed-within k g = right-lies s w (h .stretch) b (h .ends) (h .long) k g .walks .within
 
 -- the front of out lent, and back with the body read into it
 module _ (s : Settings) (w : List ℕ) (b n : ℕ) (out : List ℕ) (f : Fits s w b n out) where
   lent-long : length (take (n - 0) out) ≡ n
   lent-long = let z : n - 0 ≡ n = omega arith in ap (λ (k : ℕ). length (take k out)) z ∙ length-take-le n out (f .room)
 
-  pub fits-lies : Lies s w (headerWords + length (take (n - 0) out)) b
-  fits-lies = lies-body s w b (f .letter) (f .words) (length (take (n - 0) out)) lent-long
+  pub fits-lies : (a : ℕ) → a ≤ headerWords → Lies s w (a + length (take (n - 0) out)) b
+  fits-lies a l = lies-body s w b (f .letter) (f .words) a (length (take (n - 0) out)) l lent-long
 
   pub fits-back : (p : List ℕ) → p ≡ drop headerWords (letter s w (headerWords + length (take (n - 0) out)) b)
       → p ++ postOf 0 (n - 0) out ≡ onto (drop headerWords (wordsFrom s w b)) out

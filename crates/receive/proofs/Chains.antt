@@ -1,18 +1,15 @@
 -- An item that leaves its task queue leaves every chain of blocks as it was. Assumes nothing.
-use mathlib.Core.Path.{_≡_, refl, sym, ap, _∙_, subst}
-use mathlib.Core.Bool.{cond}
+use mathlib.Core.Path.{_≡_, sym, ap, _∙_, subst}
 use mathlib.Core.List.{List}
-use Prim.Native.Nat.{ℕ, zero, suc, _+_, _≤_, _<_}
+use Prim.Native.Nat.{ℕ, _+_, _≤_, _<_}
 use native.Mathlib.Omega.{arith}
-use lib.Dec.{eqb}
-use lib.ListN.{length, set, length-set}
-use Rattle.words.specs.Rows.{row}
+use lib.ListN.{length}
 use Rattle.words.specs.Count.{occurs}
-use Rattle.words.proofs.Lists.{put, both}
+use Rattle.words.proofs.Lists.{put}
 use Rattle.words.proofs.Rows.{But, but-none}
 use Rattle.settings.specs.declared.Settings.{Settings}
 use Rattle.settings.specs.Range.{InRange}
-use Rattle.layout.specs.Places.{taskAt, gapWord}
+use Rattle.layout.specs.Places.{taskAt}
 use Rattle.layout.specs.Numbers.{headerWords, greatestBody}
 use Rattle.layout.specs.Rows.{width}
 use Rattle.layout.specs.Asked.{Stretch}
@@ -20,49 +17,28 @@ use Rattle.layout.proofs.NodeRows.{start-task}
 use Rattle.blocks.specs.Chain.{needs, chain, after, Within}
 use Rattle.blocks.specs.Moves.{givenBack}
 use Rattle.blocks.specs.Asked.{Walks}
-use Rattle.blocks.proofs.Chains.{Leads, leads-same, same-put}
+use Rattle.blocks.proofs.Chains.{Leads, leads-queue}
 use Rattle.blocks.proofs.Rows.{rows, within-in, chain-is, chain-leads}
 use Rattle.blocks.proofs.Moves.{length-chain}
-use Rattle.queues.specs.declared.Kind.{Kind}
-use Rattle.queues.specs.Queue.{items, itemAt, slotAt, contents, taskKind}
-use Rattle.queues.specs.Moves.{dropped}
-use Rattle.queues.specs.Items.{gapFlag}
-use Rattle.queues.proofs.Views.{length-dropped}
 use Rattle.queues.proofs.InRow.{room-task}
-use Rattle.taking.specs.Take.{cleared, firstOut, out, flagged, takenOut}
+use Rattle.taking.specs.Take.{takenOut}
 use Rattle.taking.proofs.InRow.{but-taken}
+use Rattle.taking.proofs.Taken.{length-taken}
 use Rattle.sound.specs.Letters.{chainFrom}
 use Rattle.receive.specs.Take.{emptied}
 use Rattle.receive.specs.Asked.{Whole, Leaves}
-use Rattle.receive.proofs.Bodies.{body-most, owed-is, owed-some, owed-within}
+use Rattle.receive.proofs.Bodies.{needs-some, body-whole, body-most, owed-is, owed-within}
 
 -- ---- words that differ in one row before the blocks have the same chains
-module _ (s : Settings) (range : InRange s) (l : List ℕ) (r : ℕ) (h : r ≤ 76) {m p : List ℕ} (d : But (width s) l r m p) where
+module _ (s : Settings) (range : InRange s) (l : List ℕ) (r : ℕ) (h : r < 77) {m p : List ℕ} (d : But (width s) l r m p) where
   pub but-chain : (n b : ℕ) → Within (s .m) (chain s l n b) → chain s m n b ≡ chain s l n b
   but-chain n b w =
       let i : (x : ℕ) → 1 ≤ occurs x (chain s l n b) → 1 ≤ x = λ x o. within-in (s .m) (chain s l n b) x w o .0 in
       let k : Leads (s .b) (put (rows s l) r p) b (chain s l n b) (after s l n b) =
-      leads-same (s .b) (rows s l) (put (rows s l) r p) b (chain s l n b) (after s l n b)
-      (same-put (rows s l) r p (chain s l n b) (λ x o e. let y = i x o in omega arith)) (chain-leads s range l n b i) in
+      leads-queue (s .b) (rows s l) r p h (chain s l n b) i b (after s l n b) (chain-leads s range l n b i) in
       let k′ : Leads (s .b) (rows s m) b (chain s l n b) (after s l n b) =
       subst (λ (R : ℕ → List ℕ). Leads (s .b) R b (chain s l n b) (after s l n b)) (sym (d .rows)) k in
       ap (λ (j : ℕ). chain s m j b) (sym (length-chain s l n b)) ∙ chain-is s range m b (chain s l n b) (after s l n b) i k′
-
--- ---- lengths stay
-length-cleared : (k : Kind) (q n : ℕ) (l : List ℕ) → length (cleared k q n l) ≡ length l
-unfolding cleared
-length-cleared k q zero l = refl
-length-cleared k q (suc n) l =
-    both (λ (m : List ℕ). length m ≡ length l) (eqb (itemAt k l q 0) 0) (cleared k q n (dropped k l q)) l
-    (length-cleared k q n (dropped k l q) ∙ length-dropped k l q) refl
-
-pub length-taken : (s : Settings) (l : List ℕ) (q i : ℕ) → length (takenOut s l q i) ≡ length l
-unfolding flagged out firstOut
-length-taken s l q i =
-    length-set (out (taskKind s) l q i) (q + gapWord) (gapFlag (contents (taskKind s) (out (taskKind s) l q i) q))
-    ∙ both (λ (m : List ℕ). length m ≡ length l) (eqb i 0) (firstOut (taskKind s) l q) (set l (slotAt (taskKind s) l q i) 0)
-    (length-cleared (taskKind s) q (items (taskKind s) (dropped (taskKind s) l q) q) (dropped (taskKind s) l q) ∙ length-dropped (taskKind s) l q)
-    (length-set l (slotAt (taskKind s) l q i) 0)
 
 -- ---- an item taken out of task queue q
 module _ (s : Settings) (l : List ℕ) (st : Stretch s l) (q : ℕ) (h : q < 64) (i : ℕ) where
@@ -86,15 +62,17 @@ module _ (s : Settings) (w : List ℕ) (q k b n : ℕ) (h : Leaves s w q k b n) 
   pub leaves-most : n ≤ greatestBody
   leaves-most = rw (h .words) (body-most s w b leaves-whole)
 
-  module _ {owed at : ℕ} {m : List ℕ} (o : owed ≡ needs s (n + headerWords)) (a : at ≡ taskAt s q) (t : m ≡ takenOut s w at k) where
-    owes : owed ≡ length (chainFrom s w b)
-    owes = o ∙ owed-is s w b leaves-whole (h .words)
-
-    pub leaves-walks : Walks s m owed b × (1 ≤ owed)
-    leaves-walks =
+  module _ {owed at j : ℕ} {m : List ℕ} (o : owed ≡ needs s j) (a : at ≡ taskAt s q) (t : m ≡ takenOut s w at k) where
+    pub leaves-walks : 1 ≤ j → j ≤ n + headerWords → Walks s m owed b × (1 ≤ owed)
+    leaves-walks l u =
         let g = leaves-whole in
-        (rw (t, a, owes) (taken-walks s w (g .stretch) q (h .holds .queue) k (length (chainFrom s w b)) b (owed-within s w b g)), rw owes (owed-some s w b g))
+        let y = body-whole s w b g (h .words) in (
+          rw (t, a, o) (taken-walks s w (g .stretch) q (h .holds .queue) k (needs s j) b (owed-within s w b g j (omega arith))),
+          rw o (needs-some s (g .stretch .range) j l),
+        )
 
-    pub leaves-is : {e : List ℕ} → e ≡ givenBack s m owed b → e ≡ emptied s w q 0 k
+    pub leaves-is : j ≡ n + headerWords → {e : List ℕ} → e ≡ givenBack s m owed b → e ≡ emptied s w q 0 k
     unfolding emptied
-    leaves-is f = f ∙ rw (t, a, owes) (ap (λ (x : ℕ). givenBack s (takenOut s w (taskAt s q) k) (length (chainFrom s w x)) x) (h .first))
+    leaves-is u f =
+        let z : owed ≡ length (chainFrom s w b) = o ∙ ap (needs s) u ∙ owed-is s w b leaves-whole (h .words) in
+        f ∙ rw (t, a, z) (ap (λ (x : ℕ). givenBack s (takenOut s w (taskAt s q) k) (length (chainFrom s w x)) x) (h .first))

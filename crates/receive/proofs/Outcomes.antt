@@ -4,6 +4,7 @@ use mathlib.Core.Bool.{true, false, cond}
 use mathlib.Core.List.{List}
 use Prim.Native.Nat.{ℕ, _+_, _<_, _≤_}
 use native.Mathlib.Omega.{arith}
+use lib.Dec.{leb}
 use lib.ListN.{length, drop}
 use borrow.Author.Tests.{eq-eqb, ne-eqb, le-leb, lt-leb}
 use Rattle.settings.specs.declared.Settings.{Settings}
@@ -25,29 +26,27 @@ use Rattle.receive.proofs.Bodies.{word-source}
 
 -- ---- 8 or 7
 module _ (s : Settings) (w : List ℕ) (q source : ℕ) where
+  pub filled-any : source ≡ 0 → false ≡ filled s w q source
+  unfolding filled
+  filled-any e = rw (eq-eqb source 0 e)
+
+  pub filled-one : (source ≡ 0 → ⊥) → {at n : ℕ} → at ≡ taskAt s q → n ≡ items (taskKind s) w at → leb (s .t) n ≡ filled s w q source
+  unfolding filled
+  filled-one h a e = rw (ne-eqb source 0 h, e, a)
+
+  -- no such letter
   abbrev refused : Received
   refused = cond (filled s w q source) NoLetterQueueFull NoLetter
 
-  pub vain-any : source ≡ 0 → NoLetter ≡ refused
-  unfolding filled
-  vain-any e = rw (eq-eqb source 0 e)
+  pub vain-filled : filled s w q source ≡ true → NoLetterQueueFull ≡ refused
+  vain-filled e = rw e
 
-  -- a queue read at its place
-  module _ {at : ℕ} (a : at ≡ taskAt s q) where
-    pub vain-counted : {m : List ℕ} → m ≡ counted w (at + emptyWord) → m ≡ counted w (taskAt s q + emptyWord)
-    vain-counted e = e ∙ ap (λ (x : ℕ). counted w (x + 4)) a
+  pub vain-not : filled s w q source ≡ false → NoLetter ≡ refused
+  vain-not e = rw e
 
-    module _ (n : source ≡ 0 → ⊥) {c : ℕ} (e : c ≡ items (taskKind s) w at) where
-      there : c ≡ items (taskKind s) w (taskAt s q)
-      there = rw a at e
-
-      pub vain-room : c < s .t → NoLetter ≡ refused
-      unfolding filled
-      vain-room h = rw (ne-eqb source 0 n, ← there, lt-leb (s .t) c h)
-
-      pub vain-full : s .t ≤ c → NoLetterQueueFull ≡ refused
-      unfolding filled
-      vain-full h = rw (ne-eqb source 0 n, ← there, le-leb (s .t) c h)
+  -- the count of the queue at its place
+  pub vain-counted : {at : ℕ} {m : List ℕ} → at ≡ taskAt s q → m ≡ counted w (at + emptyWord) → m ≡ counted w (taskAt s q + emptyWord)
+  vain-counted a e = e ∙ ap (λ (x : ℕ). counted w (x + 4)) a
 
 -- what taking answers and leaves
 abbrev pub left : Received → List ℕ → List ℕ → Took

@@ -52,22 +52,33 @@ pub fn number_of(answer: Received) -> Answer
     }
 }
 
-// No such letter: the empty count rises; a queue that has reached its length is told before.
+// Whether a letter from one source was asked of a task queue whose items have reached T.
+fn is_filled(node: &[u32], s: Settings, q: usize, source: u32) -> bool
+    requires { ⌜ Kept s (now node) q ⌝ }
+    ensures { λ r. ⌜ r ≡ filled s (now (node .entry)) q source ⌝ }
+{
+    if source == 0 {
+        return false;
+    }
+    let at = layout::task_at(s, q);
+    let items = queues::items_of(node, queues::task_kind(s), at);
+    s.t <= items
+}
+
+// No such letter: 8 before 7, and the empty count rises.
 fn in_vain(node: &mut [u32], s: Settings, q: usize, source: u32) -> Received
     requires { ⌜ Kept s (now node) q ⌝ }
     ensures answer { λ r. ⌜ r ≡ cond (filled s (now (node .entry)) q source) Received.NoLetterQueueFull Received.NoLetter ⌝ }
     ensures stored { λ _. ⌜ now (node .exit) ≡ counted (now (node .entry)) (taskAt s q + emptyWord) ⌝ }
 {
+    let filled = is_filled(node, s, q, source);
     let at = layout::task_at(s, q);
-    let items = queues::items_of(node, queues::task_kind(s), at);
     queues::count_up(node, at + 4);
-    if source == 0 {
-        return Received::NoLetter;
+    if filled {
+        Received::NoLetterQueueFull
+    } else {
+        Received::NoLetter
     }
-    if items < s.t {
-        return Received::NoLetter;
-    }
-    Received::NoLetterQueueFull
 }
 
 // The first block of the letter at place k of task queue q.
