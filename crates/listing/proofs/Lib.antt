@@ -1,0 +1,5 @@
+pub mod Laying
+pub mod Letters
+pub mod Parts
+pub mod Few
+pub mod Outcomes
