@@ -1,7 +1,6 @@
 -- The letters of a list are few: a queue has no more than 255 items, and a task one task queue and six send queues. Assumes nothing.
-use mathlib.Core.Path.{_≡_, refl, sym, ap, _∙_}
-use mathlib.Core.Bool.{true, false, cond}
-use mathlib.Core.List.{List, [], _∷_, _++_}
+use mathlib.Core.Path.{_≡_, refl, ap}
+use mathlib.Core.List.{List, [], _∷_}
 use Prim.Native.Nat.{ℕ, zero, suc, _+_, _-_, _*_, _≤_, _<_}
 use native.Mathlib.Omega.{arith}
 use lib.Dec.{eqb}
@@ -18,10 +17,9 @@ use Rattle.queues.specs.Items.{live}
 use Rattle.queues.proofs.Items.{length-live}
 use Rattle.queues.proofs.Views.{length-contents}
 use Rattle.sound.specs.Reading.{tableIn, sendItems, taskItems}
-use Rattle.listing.specs.declared.Shown.{Shown}
 use Rattle.listing.specs.List.{wordIn, handedOver, fromTask, fromSend, waiting, fromNodes, ofTask, ofTasks}
 use Rattle.listing.specs.Asked.{Asked, Laid}
-use Rattle.listing.proofs.Parts.{asked-table, asked-send, asked-task, asked-sized, bound-seat}
+use Rattle.listing.proofs.Given.{asked-table, asked-send, asked-task, bound-seat}
 
 module _ (s : Settings) (memory : List ℕ) (task i : ℕ) where
   pub length-task : (xs : List ℕ) → length (fromTask s memory task i xs) ≡ length xs

@@ -1,13 +1,13 @@
 -- The letters of a run of items: of one item, of one item more, of the items that wait. Assumes nothing.
 use mathlib.Core.Path.{_≡_, refl, sym, ap, ap₂, _∙_}
 use mathlib.Core.Bool.{true, false, cond}
-use mathlib.Core.List.{List, [], _∷_, _++_, append-assoc}
-use Prim.Native.Nat.{ℕ, zero, suc, _+_, _-_, _≤_, _<_}
-use native.Mathlib.Nat.{add-zero, zero-add}
+use mathlib.Core.List.{List, [], _∷_, _++_}
+use Prim.Native.Nat.{ℕ, zero, suc, _+_, _-_, _≤_}
+use native.Mathlib.Nat.{zero-add}
 use native.Mathlib.Numerals.{add-one}
 use native.Mathlib.Omega.{arith}
 use lib.Dec.{eqb}
-use lib.ListN.{length, drop}
+use lib.ListN.{drop}
 use borrow.Author.Tests.{eq-eqb, ne-eqb}
 use Rattle.words.proofs.Lists.{split}
 use Rattle.settings.specs.declared.Settings.{Settings}
@@ -23,7 +23,7 @@ use Rattle.sound.specs.Reading.{stageOf, otherOf, tableIn, taskItems}
 use Rattle.listing.specs.declared.Shown.{Shown}
 use Rattle.listing.specs.List.{wordIn, shown, handedOver, fromTask, fromSend, fromNodes, ofTasks, ofTask, waiting}
 use Rattle.listing.specs.Asked.{Laid}
-use Rattle.listing.proofs.Laying.{laid-none, laid-one, laid-join}
+use Rattle.listing.proofs.Laying.{laid-none, laid-join}
 
 module _ (s : Settings) (memory : List ℕ) (task i : ℕ) where
   pub task-append : (xs ys : List ℕ) → fromTask s memory task i (xs ++ ys) ≡ fromTask s memory task i xs ++ fromTask s memory task i ys

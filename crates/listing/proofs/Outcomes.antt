@@ -1,6 +1,6 @@
 -- The outcome of a list of a sound memory, by whether out has room. Assumes nothing.
-use mathlib.Core.Path.{_≡_, refl, sym, ap, _∙_}
-use mathlib.Core.Bool.{true, false}
+use mathlib.Core.Path.{_≡_, refl, ap}
+use mathlib.Core.Bool.{true}
 use mathlib.Core.List.{List, [], _++_}
 use Prim.Native.Nat.{ℕ, _+_, _*_, _≤_, _<_}
 use native.Mathlib.Omega.{arith}
@@ -8,17 +8,16 @@ use lib.ListN.{length}
 use borrow.Author.Tests.{le-leb, lt-leb}
 use Rattle.settings.specs.declared.Settings.{Settings}
 use Rattle.layout.specs.Numbers.{listWords}
-use Rattle.letters.specs.Letter.{onto}
 use Rattle.sound.specs.Reading.{settingsIn}
 use Rattle.sound.specs.Sound.{sound}
 use Rattle.listing.specs.declared.Shown.{Shown}
 use Rattle.listing.specs.declared.Listed.{Listed}
 use Rattle.listing.specs.declared.Listed.the-variants.{Done, OutTooShort}
-use Rattle.listing.specs.List.{listed, laidOut}
+use Rattle.listing.specs.List.{listed}
 use Rattle.listing.specs.Asked.{Asked, Laid}
 use Rattle.listing.specs.Outcome.{Outcome, list}
 use Rattle.listing.proofs.Laying.{front-count, front-onto, front-none}
-use Rattle.listing.proofs.Parts.{asked-long}
+use Rattle.listing.proofs.Given.{asked-long}
 use Rattle.listing.proofs.Few.{so-tasks}
 
 abbrev pub leaving : Listed → List ℕ → Outcome

@@ -2,7 +2,7 @@
 use mathlib.Core.Path.{_≡_}
 use mathlib.Core.Bool.{true}
 use mathlib.Core.List.{List}
-use Prim.Native.Nat.{ℕ, _+_, _*_, _<_}
+use Prim.Native.Nat.{ℕ, _+_, _*_, _≤_, _<_}
 use lib.ListN.{length}
 use lib.Seq.{sets}
 use Rattle.settings.specs.declared.Settings.{Settings}
@@ -26,6 +26,10 @@ pub record Begins (s : Settings) (memory : List ℕ) (i b : ℕ) : Type 0 where
   pub there : i < nodes
   pub ends : endsWell s (node s memory i) b ≡ true
   pub long : rightLength s (node s memory i) b ≡ true
+
+-- n letters are few enough that as many more can be counted: the number of letters is one word of an answer
+abbrev pub Few : ℕ → ℕ → Type 0
+Few n more = n + more ≤ 4294967295
 
 -- behind the n letters that stand in out the letters xs are laid, which makes r letters; a word that out has no place for is not laid
 pub record Laid (xs : List Shown) (n : ℕ) (out : List ℕ) (r : ℕ) (left : List ℕ) : Type 0 where

@@ -1,5 +1,5 @@
 -- What list answers and leaves, for any memory and out: 'List', 'What comes back'. It changes no memory.
-use mathlib.Core.Bool.{Bool, cond}
+use mathlib.Core.Bool.{cond}
 use mathlib.Core.List.{List}
 use Prim.Native.Nat.{ℕ, _*_}
 use lib.Dec.{leb}

@@ -28,7 +28,7 @@ ghost use Rattle.listing.specs.List.{
   ofTask,
   listed,
 };
-ghost use Rattle.listing.specs.Asked.{Asked, Begins, Laid};
+ghost use Rattle.listing.specs.Asked.{Asked, Begins, Few, Laid};
 ghost use Rattle.listing.specs.Outcome.{told, list};
 
 // A letter that the list shows: destination, source, place (1 task queue, 2 send queue), node holding it, first block, body length.
@@ -73,7 +73,7 @@ fn put(out: &mut [u32], at: usize, word: u32)
 
 // The six words of a letter, behind the n letters that stand in out.
 fn lay(out: &mut [u32], n: usize, x: Shown)
-    requires { ⌜ n ≤ 4294967295 ⌝ }
+    requires { ⌜ Few n 1 ⌝ }
     ensures { λ _. ⌜ now (out .exit) ≡ sets (now (out .entry)) (n * listWords) (laidOut (x ∷ [])) ⌝ }
 {
     let at = n * 6;
@@ -149,7 +149,7 @@ fn list_kept(
     n: usize,
 ) -> usize
     requires { ⌜ ((b ≡ 0 → ⊥) → Begins s (now memory) i b) ⌝ }
-    requires { ⌜ n ≤ 4294967295 ⌝ }
+    requires { ⌜ Few n 1 ⌝ }
     ensures { λ r. ⌜ Laid (fromTask s (now (memory .entry)) task i (live (b ∷ []))) n (now (out .entry)) r (now (out .exit)) ⌝ }
 {
     if b == 0 {
@@ -171,7 +171,7 @@ fn list_sent(
     n: usize,
 ) -> usize
     requires { ⌜ Begins s (now memory) j b ⌝ }
-    requires { ⌜ n ≤ 4294967295 ⌝ }
+    requires { ⌜ Few n 1 ⌝ }
     ensures { λ r. ⌜ Laid (fromSend s (now (memory .entry)) task j (b ∷ [])) n (now (out .entry)) r (now (out .exit)) ⌝ }
 {
     if word_in(memory, s, j, b, 2) != task {
@@ -194,7 +194,7 @@ fn list_task_queue(
 ) -> usize
     requires { ⌜ Asked s (now memory) ⌝ }
     requires { ⌜ (i < nodes) × (q < taskQueues) ⌝ }
-    requires { ⌜ n ≤ 4000000 ⌝ }
+    requires { ⌜ Few n 255 ⌝ }
     ensures { λ r. ⌜ Laid (fromTask s (now (memory .entry)) task i (live (taskItems s (now (memory .entry)) i q))) n (now (out .entry)) r (now (out .exit)) ⌝ }
 {
     let k = queues::task_kind(s);
@@ -238,7 +238,7 @@ fn list_send_queue(
 ) -> usize
     requires { ⌜ Asked s (now memory) ⌝ }
     requires { ⌜ (i < nodes) × (j < nodes) ⌝ }
-    requires { ⌜ n ≤ 4000000 ⌝ }
+    requires { ⌜ Few n 255 ⌝ }
     ensures { λ r. ⌜ Laid (fromSend s (now (memory .entry)) task j (waiting s (now (memory .entry)) i j)) n (now (out .entry)) r (now (out .exit)) ⌝ }
 {
     let k = queues::send_kind(s);
@@ -259,7 +259,7 @@ fn list_send_queue(
 fn list_nodes(memory: &[u32], s: Settings, task: u32, i: u32, out: &mut [u32], n: usize) -> usize
     requires { ⌜ Asked s (now memory) ⌝ }
     requires { ⌜ i < nodes ⌝ }
-    requires { ⌜ n ≤ 3000000 ⌝ }
+    requires { ⌜ Few n (nodes * 255) ⌝ }
     ensures { λ r. ⌜ Laid (fromNodes s (now (memory .entry)) task i nodes) n (now (out .entry)) r (now (out .exit)) ⌝ }
 {
     let mut r = n;
@@ -274,7 +274,7 @@ fn list_nodes(memory: &[u32], s: Settings, task: u32, i: u32, out: &mut [u32], n
 // The letters of a task, behind the n letters in out.
 fn list_task(memory: &[u32], s: Settings, task: u32, out: &mut [u32], n: usize) -> usize
     requires { ⌜ Asked s (now memory) ⌝ }
-    requires { ⌜ n ≤ 2000000 ⌝ }
+    requires { ⌜ Few n (255 + nodes * 255) ⌝ }
     ensures { λ r. ⌜ Laid (ofTask s (now (memory .entry)) task) n (now (out .entry)) r (now (out .exit)) ⌝ }
 {
     let Seat::At(i, q) = tasks::seat_of(&memory[24..536], task) else {

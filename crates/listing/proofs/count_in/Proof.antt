@@ -1,53 +1,19 @@
-use borrow.Author.Needs.{needs}
-use Rattle.listing.proofs.Parts.{node-part}
-use Rattle.queues.specs.Queue.{items}
+-- `listing::count_in` meets its contract. Assumes nothing.
 use mathlib.Core.List.{List}
-use Prim.Native.Nat.{ℕ}
 use mathlib.Core.Path.{ap, _∙_}
+use Prim.Native.Nat.{ℕ}
+use borrow.Author.Needs.{needs}
+use Rattle.queues.specs.Queue.{items}
+use Rattle.listing.proofs.Given.{node-part}
 use Rattle.listing.proofs.count_in.Statement.{statement}
 use Rattle.listing.proofs.count_in.Tie as tie
-use Rattle.listing.proofs.count_in.Reads as reads
-use Rattle.listing.proofs.count_in.Lts as lts
-use Rattle.layout.proofs.node_at.Reads as node-at-reads
-use Rattle.layout.proofs.node_size.Reads as node-size-reads
-use Rattle.queues.proofs.items_of.Reads as items-of-reads
 
--- src/lib.rt:91:9
-node-at-requires : tie.Need-node-at-requires
-node-at-requires c κs = search needs
-
--- src/lib.rt:92:17
-node-size-requires : tie.Need-node-size-requires
-node-size-requires c κs = search needs
-
--- src/lib.rt:92:13
-add-e : tie.Need-add-e
-add-e c = search needs
-
--- src/lib.rt:93:22
-mul-items-of : tie.Need-mul-items-of
-mul-items-of c = search needs
-
--- src/lib.rt:93:22
-sub-items-of : tie.Need-sub-items-of
-sub-items-of c = search needs
-
--- src/lib.rt:93:22
-part-items-of-start : tie.Need-part-items-of-start
-part-items-of-start c = search needs
-
--- src/lib.rt:93:22
-part-items-of-end : tie.Need-part-items-of-end
-part-items-of-end c = search needs
-
--- src/lib.rt:93:5
 items-of-requires : tie.Need-items-of-requires
 items-of-requires c κs =
     let x = c .before .before .before .before in
     let e = node-part (x .args .s) (x .args .memory .now) (x .args .i) _ _ (c .before .before .node-at .ensures .is) (c .before .node-size .ensures .is) in
     rw e (x .pre .1 .1)
 
--- src/lib.rt:85:1
 returns : tie.Need-returns
 returns c =
     let x = c .before .before .before .before .before in
@@ -58,12 +24,12 @@ pub count-in-spec : {M : Type 1} → statement M
 count-in-spec =
     tie.close
     (tie.spec
-    node-at-requires
-    node-size-requires
-    add-e
-    mul-items-of
-    sub-items-of
-    part-items-of-start
-    part-items-of-end
+    (λ c κs. search needs)
+    (λ c κs. search needs)
+    (λ c. search needs)
+    (λ c. search needs)
+    (λ c. search needs)
+    (λ c. search needs)
+    (λ c. search needs)
     items-of-requires
     returns)

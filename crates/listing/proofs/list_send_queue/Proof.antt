@@ -1,25 +1,18 @@
-use Rattle.listing.proofs.list_send_queue.Statement.{statement}
-use Rattle.listing.proofs.Parts.{asked-sized, asked-long, asked-send, sent-count, sent-queue, sent-place, sent-begins}
+-- `listing::list_send_queue` meets its contract: after each turn the letters of the items from the first that is not left out up to place c are laid. Assumes nothing.
+use mathlib.Core.Path.{_≡_}
+use Prim.Native.Nat.{ℕ, _-_, _≤_}
+use native.Mathlib.Omega.{arith}
+use borrow.Author.Needs.{needs}
+use Rattle.queues.specs.Queue.{sendKind, items, run}
+use Rattle.layout.specs.Places.{sendAt, node}
+use Rattle.listing.proofs.Given.{asked-sized, asked-long, asked-send, sent-count, sent-queue, sent-place, sent-begins}
 use Rattle.listing.proofs.Few.{so-sent}
 use Rattle.listing.proofs.Letters.{sent-start, sent-more, waiting-run}
 use Rattle.listing.proofs.Laying.{laid-length}
 use Rattle.listing.specs.Asked.{Laid}
 use Rattle.listing.specs.List.{fromSend}
-use Rattle.queues.specs.Queue.{sendKind, items, run}
-use Rattle.layout.specs.Places.{sendAt, node}
-use Prim.Native.Nat.{ℕ, _-_, _≤_}
-use mathlib.Core.Path.{_≡_}
-use native.Mathlib.Omega.{arith}
-use borrow.Author.Needs.{needs}
+use Rattle.listing.proofs.list_send_queue.Statement.{statement}
 use Rattle.listing.proofs.list_send_queue.Tie as tie
-use Rattle.listing.proofs.list_send_queue.Reads as reads
-use Rattle.listing.proofs.list_send_queue.Lts as lts
-use Rattle.layout.proofs.send_at.Reads as send-at-reads
-use Rattle.listing.proofs.count_in.Reads as count-in-reads
-use Rattle.listing.proofs.item_in.Reads as item-in-reads
-use Rattle.listing.proofs.left_out.Reads as left-out-reads
-use Rattle.listing.proofs.list_sent.Reads as list-sent-reads
-use Rattle.queues.proofs.send_kind.Reads as send-kind-reads
 
 abbrev Inv-loop : tie.InvT-loop
 Inv-loop memory s task i j out₀ n k at count first r₀ c₀ out r c = (first ≤ c) × (c - first ≤ count - first) × Laid (fromSend s memory task j (run (sendKind s) (node s memory j) (sendAt s i) first (c - first))) n out₀ r out
@@ -27,31 +20,22 @@ Inv-loop memory s task i j out₀ n k at count first r₀ c₀ out r c = (first 
 abbrev μ-loop : tie.MeasureT-loop
 μ-loop memory s task i j out₀ n k at count first r₀ c₀ out r c = count - c
 
--- src/lib.rt:244:9
-send-kind-requires : tie.Need-send-kind-requires Inv-loop μ-loop
-send-kind-requires c κs = search needs
-
--- src/lib.rt:245:9
 send-at-requires : tie.Need-send-at-requires Inv-loop μ-loop
 send-at-requires c κs = let x = c .before .before .before in (asked-sized _ _ (x .pre .0) .range, x .pre .1 .0 .0)
 
--- src/lib.rt:246:9
 count-in-requires : tie.Need-count-in-requires Inv-loop μ-loop
 count-in-requires c κs =
     let x = c .before .before .before .before in
     (asked-sized _ _ (x .pre .0), (x .pre .1 .0 .1, rw (c .before .send-kind .ensures, c .send-at .ensures .is) (asked-send (x .args .s) (x .args .memory .now) (x .pre .0) (x .args .j) (x .pre .1 .0 .1) (x .args .i) (x .pre .1 .0 .0))))
 
--- src/lib.rt:247:9
 left-out-requires : tie.Need-left-out-requires Inv-loop μ-loop
 left-out-requires c κs = let x = c .before .before .before .before .before in (asked-long _ _ (x .pre .0), x .pre .1 .0 .0)
 
--- src/lib.rt:250:5
 loop-holds : tie.Need-loop-holds Inv-loop μ-loop
 loop-holds c =
     let x = c .before .before .before .before .before .before .args in
     (omega arith, omega arith, sent-start (x .s) (x .memory .now) (x .n) (x .out .now) (x .task) (x .j) (sendKind (x .s)) (node (x .s) (x .memory .now) (x .j)) (sendAt (x .s) (x .i)) _)
 
--- src/lib.rt:251:13
 item-in-requires : tie.Need-item-in-requires Inv-loop μ-loop
 item-in-requires c κs =
     let y = c .before .before .before in
@@ -66,7 +50,6 @@ item-in-requires c κs =
       ),
     )
 
--- src/lib.rt:252:9
 list-sent-requires : tie.Need-list-sent-requires Inv-loop μ-loop
 list-sent-requires c κs =
     let l = c .before .before .before .loop in
@@ -77,15 +60,6 @@ list-sent-requires c κs =
       omega (arith, so-sent (x .args .s) (x .args .memory .now) (x .args .task) (x .args .j) (x .args .n) (l .r) (x .args .out .now) (l .out) _ _ _ _ _ (l .inv .2)),
     )
 
--- src/lib.rt:253:9
-add-c : tie.Need-add-c Inv-loop μ-loop
-add-c c = search needs
-
--- src/lib.rt:250:5
-loop-less : tie.Need-loop-less Inv-loop μ-loop
-loop-less c = search needs
-
--- src/lib.rt:250:5
 loop-again : tie.Need-loop-again Inv-loop μ-loop
 loop-again c =
     let l = c .before .before .before .before .before .before .loop in
@@ -93,11 +67,9 @@ loop-again c =
     let x = y .before .before .before .before .before .args in
     (omega arith, omega arith, sent-more (x .s) (x .memory .now) (x .task) (x .j) (sendKind (x .s)) (node (x .s) (x .memory .now) (x .j)) (sendAt (x .s) (x .i)) (x .n) (l .r) _ (x .out .now) (l .out) _ _ _ (l .c) _ (y .before .before .send-kind .ensures) (y .before .send-at .ensures .is) (c .before .before .before .before .item-in .ensures) _ (l .inv .0) (l .inv .2) (c .before .before .list-sent .ensures))
 
--- src/lib.rt:230:1
 same-length : tie.Need-same-length Inv-loop μ-loop
 same-length c = laid-length (c .before .loop .inv .2)
 
--- src/lib.rt:230:1
 returns : tie.Need-returns Inv-loop μ-loop
 returns c =
     let l = c .before .loop in
@@ -114,15 +86,15 @@ list-send-queue-spec =
     (tie.spec
     Inv-loop
     μ-loop
-    send-kind-requires
+    (λ c κs. search needs)
     send-at-requires
     count-in-requires
     left-out-requires
     loop-holds
     item-in-requires
     list-sent-requires
-    add-c
-    loop-less
+    (λ c. search needs)
+    (λ c. search needs)
     loop-again
     same-length
     returns)

@@ -1,17 +1,15 @@
-use Rattle.listing.proofs.list_tasks.Statement.{statement}
+-- `listing::list_tasks` meets its contract: after each turn the letters of the tasks below `task` are laid. Assumes nothing.
+use mathlib.Core.Path.{_≡_}
+use Prim.Native.Nat.{_-_, _≤_}
+use native.Mathlib.Omega.{arith}
+use borrow.Author.Needs.{needs}
 use Rattle.listing.proofs.Few.{so-tasks}
 use Rattle.listing.proofs.Letters.{tasks-start, tasks-more}
 use Rattle.listing.proofs.Laying.{laid-length}
 use Rattle.listing.specs.Asked.{Laid}
 use Rattle.listing.specs.List.{ofTasks}
-use Prim.Native.Nat.{ℕ, _-_, _≤_}
-use mathlib.Core.Path.{_≡_}
-use native.Mathlib.Omega.{arith}
-use borrow.Author.Needs.{needs}
+use Rattle.listing.proofs.list_tasks.Statement.{statement}
 use Rattle.listing.proofs.list_tasks.Tie as tie
-use Rattle.listing.proofs.list_tasks.Reads as reads
-use Rattle.listing.proofs.list_tasks.Lts as lts
-use Rattle.listing.proofs.list_task.Reads as list-task-reads
 
 abbrev Inv-loop : tie.InvT-loop
 Inv-loop memory s out₀ n₀ task₀ out n task = (task ≤ 256) × Laid (ofTasks s memory task) 0 out₀ n out
@@ -19,37 +17,24 @@ Inv-loop memory s out₀ n₀ task₀ out n task = (task ≤ 256) × Laid (ofTas
 abbrev μ-loop : tie.MeasureT-loop
 μ-loop memory s out₀ n₀ task₀ out n task = 256 - task
 
--- src/lib.rt:294:5
 loop-holds : tie.Need-loop-holds Inv-loop μ-loop
 loop-holds c = let x = c .before .before .args in (omega arith, tasks-start (x .s) (x .memory .now) 0 (x .out .now))
 
--- src/lib.rt:295:9
 list-task-requires : tie.Need-list-task-requires Inv-loop μ-loop
 list-task-requires c κs =
     let l = c .before .before .loop in
     let x = c .before .before .before .before .before in
     (x .pre, omega (arith, so-tasks (x .args .s) (x .args .memory .now) (x .pre) 0 (l .n) (x .args .out .now) (l .out) (l .task) (l .inv .1)))
 
--- src/lib.rt:296:9
-add-task : tie.Need-add-task Inv-loop μ-loop
-add-task c = search needs
-
--- src/lib.rt:294:5
-loop-less : tie.Need-loop-less Inv-loop μ-loop
-loop-less c = search needs
-
--- src/lib.rt:294:5
 loop-again : tie.Need-loop-again Inv-loop μ-loop
 loop-again c =
     let l = c .before .before .before .before .before .loop in
     let x = c .before .before .before .before .before .before .before .before .args in
     (omega arith, tasks-more (x .s) (x .memory .now) 0 (l .n) _ (x .out .now) (l .out) _ (l .task) (l .inv .1) (c .before .before .list-task .ensures))
 
--- src/lib.rt:288:1
 same-length : tie.Need-same-length Inv-loop μ-loop
 same-length c = laid-length (c .before .loop .inv .1)
 
--- src/lib.rt:288:1
 returns : tie.Need-returns Inv-loop μ-loop
 returns c =
     let l = c .before .loop in
@@ -64,8 +49,8 @@ list-tasks-spec =
     μ-loop
     loop-holds
     list-task-requires
-    add-task
-    loop-less
+    (λ c. search needs)
+    (λ c. search needs)
     loop-again
     same-length
     returns)

@@ -1,17 +1,16 @@
 -- What a sound memory gives to the functions of list. Assumes nothing.
-use mathlib.Core.Path.{_≡_, refl, sym, ap, ap₂, _∙_}
-use mathlib.Core.Bool.{Bool, true, false, cond, _&&_, _||_, not, false≢true}
-use mathlib.Core.List.{List, [], _∷_, _++_}
-use Prim.Native.Nat.{ℕ, zero, suc, _+_, _-_, _≤_, _<_}
+use mathlib.Core.Path.{_≡_, sym, ap₂, _∙_}
+use mathlib.Core.Bool.{true, false, _&&_, _||_, not}
+use mathlib.Core.List.{List}
+use Prim.Native.Nat.{ℕ, _+_, _-_, _≤_, _<_}
 use native.Mathlib.Omega.{arith}
 use lib.Dec.{eqb, ltb, leb}
 use lib.ListN.{length, getD}
 use borrow.Author.Tests.{leb-true, ltb-true, not-true}
-use Rattle.words.specs.Words.{part, every}
+use Rattle.words.specs.Words.{part}
 use Rattle.words.proofs.Lists.{split, and-true, every-at}
 use Rattle.settings.specs.declared.Settings.{Settings}
-use Rattle.settings.specs.Range.{InRange}
-use Rattle.layout.specs.Places.{nodes, taskQueues, taskIds, nodesAt, sendAt, taskAt, nodeSize, nodeAt, memorySize, node}
+use Rattle.layout.specs.Places.{nodes, taskQueues, taskIds, nodesAt, sendAt, taskAt, nodeSize, nodeAt, node}
 use Rattle.layout.specs.Numbers.{headerWords, sourceTaskWord, lengthWord}
 use Rattle.layout.specs.Asked.{Stretch, Sized}
 use Rattle.words.proofs.Parts.{length-part}
@@ -19,17 +18,16 @@ use Rattle.layout.proofs.Fits.{nodes-fit}
 use Rattle.layout.proofs.MemoryRows.{stretch-fits}
 use Rattle.tasks.specs.Table.{nodeOf, queueOf, holdsNone, isBound, hasSeat, seated, apart, rightTable}
 use Rattle.tasks.specs.Seat.{seatOf}
-use Rattle.tasks.specs.declared.Seat.{Seat}
 use Rattle.tasks.specs.declared.Seat.the-variants.{At, Unbound}
 use Rattle.letters.specs.Letter.{word}
 use Rattle.letters.specs.Asked.{Lies}
 use Rattle.queues.specs.declared.Kind.{Kind}
-use Rattle.queues.specs.Queue.{sendKind, taskKind, items, itemAt, contents, Queue}
+use Rattle.queues.specs.Queue.{sendKind, taskKind, items, itemAt, Queue}
 use Rattle.queues.proofs.Views.{length-contents, contents-item}
-use Rattle.sound.specs.Reading.{settingsIn, tableIn, sendItems, taskItems}
-use Rattle.sound.specs.Letters.{toldLength, wordsFrom}
+use Rattle.sound.specs.Reading.{tableIn, sendItems, taskItems}
+use Rattle.sound.specs.Letters.{toldLength}
 use Rattle.sound.specs.Sound.{sound}
-use Rattle.sound.proofs.Gives.{gives-table, gives-range, gives-sized, gives-stretch, gives-send, gives-task}
+use Rattle.sound.proofs.Gives.{gives-table, gives-sized, gives-send, gives-task}
 use Rattle.sound.proofs.Held.{Right, send-right, task-right}
 use Rattle.sound.proofs.Right.{right-least, right-lies, right-word, right-told}
 use Rattle.listing.specs.List.{wordIn, shown}
