@@ -1,2 +1,3 @@
 pub mod List
+pub mod Asked
 pub mod Outcome

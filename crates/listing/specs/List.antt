@@ -11,15 +11,11 @@ use Rattle.tasks.specs.Table.{nodeOf, queueOf, isBound}
 use Rattle.queues.specs.Items.{live}
 use Rattle.sound.specs.Reading.{stageOf, otherOf, tableIn, sendItems, taskItems}
 use Rattle.sound.specs.Letters.{toldLength, wordsFrom}
+use Rattle.listing.specs.declared.Shown.{Shown}
 
--- a letter that the list shows: 'destination, source, place (1 task queue, 2 send queue), node holding it, first block, body length'
-pub record Shown : Type 0 where
-  pub destination : ℕ
-  pub source : ℕ
-  pub place : ℕ
-  pub holder : ℕ
-  pub block : ℕ
-  pub body : ℕ
+-- 'The first item of a send queue is left out when its postman is at stage 3 and names the node that queue is on': the queue that node j has for node i
+unfoldable pub handedOver : List ℕ → ℕ → ℕ → Bool
+handedOver memory i j = eqb (stageOf memory i) 3 && eqb (otherOf memory i) j
 
 module _ (s : Settings) (memory : List ℕ) where
   -- word k of the letter that block b begins in node i
@@ -48,13 +44,9 @@ module _ (s : Settings) (memory : List ℕ) where
   fromSend task j [] = []
   fromSend task j (b ∷ bs) = cond (eqb (wordIn j b destinationTaskWord) task) (shown task 2 j b ∷ fromSend task j bs) (fromSend task j bs)
 
-  -- 'The first item of a send queue is left out when its postman is at stage 3 and names the node that queue is on'
-  abbrev pub handedOver : ℕ → ℕ → Bool
-  handedOver i j = eqb (stageOf memory i) 3 && eqb (otherOf memory i) j
-
   -- what still waits in node j's send queue for node i
   unfoldable pub waiting : ℕ → ℕ → List ℕ
-  waiting i j = cond (handedOver i j) (drop 1 (sendItems s memory j i)) (sendItems s memory j i)
+  waiting i j = cond (handedOver memory i j) (drop 1 (sendItems s memory j i)) (sendItems s memory j i)
 
   -- 'from nodes 0 to 5, that task's letters in the send queue to its node, first to last': of the first n nodes
   unfoldable pub fromNodes : ℕ → ℕ → ℕ → List Shown

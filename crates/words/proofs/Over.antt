@@ -1,7 +1,8 @@
 -- Words laid over the front of a list, the rest of which stays: no case of lengths anywhere. Assumes nothing.
 use mathlib.Core.Path.{_≡_, refl, ap, _∙_}
 use mathlib.Core.List.{List, [], _∷_, _++_}
-use Prim.Native.Nat.{ℕ, zero, suc, _≤_}
+use Prim.Native.Nat.{ℕ, zero, suc, _+_, _≤_}
+use native.Mathlib.Nat.{add-zero}
 use native.Mathlib.Omega.{arith}
 use lib.ListN.{length, getD, take, drop, set}
 use lib.Seq.{sets}
@@ -62,3 +63,10 @@ pub sets-over : (p l : List ℕ) → sets l 0 p ≡ over p l
 sets-over [] l = refl
 sets-over (x ∷ p) [] = sets-nil 1 p
 sets-over (x ∷ p) (y ∷ l) = sets-cons x l 0 p ∙ ap (λ (r : List ℕ). x ∷ r) (sets-over p l)
+
+-- a run of stores behind another
+pub sets-append : (p q l : List ℕ) (a : ℕ) → sets l a (p ++ q) ≡ sets (sets l a p) (a + length p) q
+sets-append [] q l a = ap (λ (k : ℕ). sets l k q) (sym (add-zero a))
+sets-append (x ∷ p) q l a =
+    let e : suc a + length p ≡ a + suc (length p) = omega arith in
+    sets-append p q (set l a x) (suc a) ∙ ap (λ (k : ℕ). sets (sets (set l a x) (suc a) p) k q) e

@@ -1,0 +1,95 @@
+-- The letters of a list are few: a queue has no more than 255 items, and a task one task queue and six send queues. Assumes nothing.
+use mathlib.Core.Path.{_≡_, refl, ap}
+use mathlib.Core.List.{List, [], _∷_}
+use Prim.Native.Nat.{ℕ, zero, suc, _+_, _-_, _*_, _≤_, _<_}
+use native.Mathlib.Omega.{arith}
+use lib.Dec.{eqb}
+use lib.ListN.{length, drop, length-append, length-drop}
+use Rattle.words.proofs.Lists.{split, both}
+use Rattle.settings.specs.declared.Settings.{Settings}
+use Rattle.layout.specs.Places.{nodes, taskQueues, sendAt, taskAt, node}
+use Rattle.layout.specs.Numbers.{destinationTaskWord}
+use Rattle.tasks.specs.Table.{nodeOf, queueOf, isBound}
+use Rattle.queues.specs.declared.Kind.{Kind}
+use Rattle.queues.specs.Queue.{sendKind, taskKind, items, run}
+use Rattle.queues.proofs.Ring.{length-run}
+use Rattle.queues.specs.Items.{live}
+use Rattle.queues.proofs.Items.{length-live}
+use Rattle.queues.proofs.Views.{length-contents}
+use Rattle.sound.specs.Reading.{tableIn, sendItems, taskItems}
+use Rattle.listing.specs.List.{wordIn, handedOver, fromTask, fromSend, waiting, fromNodes, ofTask, ofTasks}
+use Rattle.listing.specs.Asked.{Asked, Laid}
+use Rattle.listing.proofs.Given.{asked-table, asked-send, asked-task, bound-seat}
+
+module _ (s : Settings) (memory : List ℕ) (task i : ℕ) where
+  pub length-task : (xs : List ℕ) → length (fromTask s memory task i xs) ≡ length xs
+  unfolding fromTask
+  length-task [] = refl
+  length-task (b ∷ xs) = ap suc (length-task xs)
+
+  pub length-send : (xs : List ℕ) → length (fromSend s memory task i xs) ≤ length xs
+  unfolding fromSend
+  length-send [] = omega arith
+  length-send (b ∷ xs) =
+      split (eqb (wordIn s memory i b destinationTaskWord) task)
+      (λ e. rw e (omega (arith, length-send xs)))
+      (λ e. rw e (omega (arith, length-send xs)))
+
+  pub length-kept : (xs : List ℕ) → length (fromTask s memory task i (live xs)) ≤ length xs
+  length-kept xs = omega (arith, length-task (live xs), length-live xs)
+
+module _ (s : Settings) (memory : List ℕ) (a : Asked s memory) where
+  pub few-kept : (i q : ℕ) → i < nodes → q < taskQueues → length (taskItems s memory i q) ≤ 255
+  few-kept i q h g =
+      let u = asked-task s memory a i h q g in
+      omega (arith, length-contents (taskKind s) (node s memory i) (taskAt s q) u, u .count, u .placed .small)
+
+  pub few-waiting : (i j : ℕ) → i < nodes → j < nodes → length (waiting s memory i j) ≤ 255
+  unfolding waiting
+  few-waiting i j h g =
+      let u = asked-send s memory a j g i h in
+      let n = length-contents (sendKind s) (node s memory j) (sendAt s i) u in
+      both (λ (l : List ℕ). length l ≤ 255) (handedOver memory i j) (drop 1 (sendItems s memory j i)) (sendItems s memory j i)
+      (rw length-drop (omega (arith, u .count, u .placed .small)))
+      (omega (arith, u .count, u .placed .small))
+
+  pub few-nodes : (task i j : ℕ) → i < nodes → j ≤ nodes → length (fromNodes s memory task i j) ≤ j * 255
+  unfolding fromNodes
+  few-nodes task i zero h g = omega arith
+  few-nodes task i (suc j) h g =
+      rw length-append (omega (arith, few-nodes task i j h (omega arith), length-send s memory task j (waiting s memory i j), few-waiting i j h (omega arith)))
+
+  pub few-task : (task : ℕ) → length (ofTask s memory task) ≤ 1785
+  unfolding ofTask
+  few-task task =
+      split (isBound (tableIn memory) task)
+      (λ e.
+      let b = bound-seat (tableIn memory) (asked-table s memory a) task e in
+      let i : ℕ = nodeOf (tableIn memory) task in
+      let q : ℕ = queueOf (tableIn memory) task in
+      rw (e, length-append)
+      (omega (arith, length-kept s memory task i (taskItems s memory i q), few-kept i q (b .0) (b .1), few-nodes task i 6 (b .0) (omega arith))))
+      (λ e. rw e (omega arith))
+
+  pub few-tasks : (n : ℕ) → length (ofTasks s memory n) ≤ n * 1785
+  unfolding ofTasks
+  few-tasks zero = omega arith
+  few-tasks (suc n) = rw length-append (omega (arith, few-tasks n, few-task n))
+
+-- ---- how many letters there are so far
+module _ (s : Settings) (memory : List ℕ) (task i n r : ℕ) (out left : List ℕ) where
+  pub so-kept : (k : Kind) (w : List ℕ) (q c : ℕ) → Laid (fromTask s memory task i (live (run k w q 0 c))) n out r left → r ≤ n + c
+  so-kept k w q c l = omega (arith, l .count, length-kept s memory task i (run k w q 0 c), length-run k w q 0 c)
+
+  pub so-sent : (k : Kind) (w : List ℕ) (q f c : ℕ) → Laid (fromSend s memory task i (run k w q f c)) n out r left → r ≤ n + c
+  so-sent k w q f c l = omega (arith, l .count, length-send s memory task i (run k w q f c), length-run k w q f c)
+
+module _ (s : Settings) (memory : List ℕ) (a : Asked s memory) (n r : ℕ) (out left : List ℕ) where
+  pub so-task : (task i q : ℕ) → i < nodes → q < taskQueues → Laid (fromTask s memory task i (live (taskItems s memory i q))) n out r left → r ≤ n + 255
+  so-task task i q h g l = omega (arith, l .count, length-kept s memory task i (taskItems s memory i q), few-kept s memory a i q h g)
+
+  pub so-nodes : (task i j : ℕ) → i < nodes → j ≤ nodes → Laid (fromNodes s memory task i j) n out r left → r ≤ n + j * 255
+  so-nodes task i j h g l = omega (arith, l .count, few-nodes s memory a task i j h g)
+
+  pub so-tasks : (k : ℕ) → Laid (ofTasks s memory k) n out r left → r ≤ n + k * 1785
+  so-tasks k l = omega (arith, l .count, few-tasks s memory a k)

@@ -1,0 +1,5 @@
+pub mod Laying
+pub mod Letters
+pub mod Given
+pub mod Few
+pub mod Outcomes
