@@ -25,12 +25,12 @@ use Rattle.taking.specs.Take.{cleared, firstOut, out, flagged, takenOut}
 use Rattle.taking.proofs.Taken.{taken-task}
 use Rattle.machine.specs.Machine.{Letter, gap, first, firsts, Live, Node, All, many}
 use Rattle.machine.specs.Core.{seat, line, kind, Held, Core}
-use Rattle.machine.proofs.Letters.{all-append, many-append, firsts-append, length-firsts}
+use Rattle.machine.proofs.Letters.{all-at, all-append, many-append, firsts-append, length-firsts}
 use Rattle.machine.proofs.Places.{seat-task, line-task, kind-task}
 use Rattle.machine.proofs.Counts.{gap-held}
 use Rattle.moves.specs.Moves.{putRow, moved, liveOnes, lettersWithout}
 use Rattle.moves.proofs.Core.{many-most, queue-put, word-put}
-use Rattle.moves.proofs.Items.{firsts-live, all-live, many-live, firsts-without, all-without, many-without, all-at}
+use Rattle.moves.proofs.Items.{firsts-live, all-live, many-live, firsts-without, all-without, many-without}
 
 -- ---- any queue
 module _ (s : Settings) (R : ℕ → ℕ → List ℕ) (N : ℕ → Node) (core : Core s R N) (i p : ℕ) (h : i < 6) (lo : 1 ≤ p) (hi : p < 77) where
