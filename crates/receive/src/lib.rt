@@ -37,10 +37,10 @@ pub fn number_of(answer: Received) -> Answer
     ensures { λ r. ⌜ r ≡ told answer ⌝ }
 {
     match answer {
-        Received::Done(source, length) => Answer {
+        Received::Done(source, words) => Answer {
             number: 0,
             first: source,
-            second: length,
+            second: words,
             third: 0,
         },
         Received::NotSound => answers::bare(1),
@@ -135,13 +135,7 @@ fn take_at(node: &mut [u32], s: Settings, q: usize, k: usize, out: &mut [u32]) -
 }
 
 // Takes the first letter from the source, or the first of all where the source is 0, out of task queue q.
-pub fn take_letter(
-    node: &mut [u32],
-    s: Settings,
-    q: usize,
-    source: u32,
-    out: &mut [u32],
-) -> Received
+fn take_letter(node: &mut [u32], s: Settings, q: usize, source: u32, out: &mut [u32]) -> Received
     requires { ⌜ Kept s (now node) q ⌝ }
     ensures { λ r. ⌜ record { answer = r; stretch = now (node .exit); out = now (out .exit) } ≡ took s (now (node .entry)) q source (now (out .entry)) ⌝ }
 {
