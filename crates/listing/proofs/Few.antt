@@ -19,7 +19,7 @@ use Rattle.queues.proofs.Views.{length-contents}
 use Rattle.sound.specs.Reading.{tableIn, sendItems, taskItems}
 use Rattle.listing.specs.List.{wordIn, handedOver, fromTask, fromSend, waiting, fromNodes, ofTask, ofTasks}
 use Rattle.listing.specs.Asked.{Asked, Laid}
-use Rattle.listing.proofs.Given.{asked-table, asked-send, asked-task, bound-seat}
+use Rattle.listing.proofs.Given.{first-unbound, asked-table, asked-send, asked-task, bound-seat}
 
 module _ (s : Settings) (memory : List ℕ) (task i : ℕ) where
   pub length-task : (xs : List ℕ) → length (fromTask s memory task i xs) ≡ length xs
@@ -75,6 +75,11 @@ module _ (s : Settings) (memory : List ℕ) (a : Asked s memory) where
   unfolding ofTasks
   few-tasks zero = omega arith
   few-tasks (suc n) = rw length-append (omega (arith, few-tasks n, few-task n))
+
+-- 'For destination tasks 1 to 255': task 0 has no letter
+pub zero-none : (s : Settings) (memory : List ℕ) → Asked s memory → ofTask s memory 0 ≡ []
+unfolding ofTask
+zero-none s memory a = rw (first-unbound (tableIn memory) (asked-table s memory a))
 
 -- ---- how many letters there are so far
 module _ (s : Settings) (memory : List ℕ) (task i n r : ℕ) (out left : List ℕ) where

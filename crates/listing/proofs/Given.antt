@@ -75,7 +75,7 @@ module _ (s : Settings) (memory : List ℕ) (i b : ℕ) (g : Begins s memory i b
   told-least long f = omega (arith, f ∙ begins-told, begins-least)
 
 -- ---- where a bound task sits
-module _ (t : List ℕ) (r : rightTable t ≡ true) (id : ℕ) where
+module _ (t : List ℕ) (r : rightTable t ≡ true) where
   right-seated : seated t ≡ true
   unfolding rightTable
   right-seated =
@@ -83,9 +83,13 @@ module _ (t : List ℕ) (r : rightTable t ≡ true) (id : ℕ) where
       let b = and-true (holdsNone t 0) _ (a .1) in
       and-true (seated t) (apart t) (b .1) .0
 
-  pub bound-seat : isBound t id ≡ true → (nodeOf t id < nodes) × (queueOf t id < taskQueues)
+  right-first : holdsNone t 0 ≡ true
+  unfolding rightTable
+  right-first = and-true (holdsNone t 0) _ (and-true (eqb (length t) 512) _ r .1) .0
+
+  pub bound-seat : (id : ℕ) → isBound t id ≡ true → (nodeOf t id < nodes) × (queueOf t id < taskQueues)
   unfolding isBound seated hasSeat
-  bound-seat e =
+  bound-seat id e =
       let a = and-true (ltb id taskIds) (not (holdsNone t id)) e in
       let f : holdsNone t id ≡ false = not-true (holdsNone t id) (a .1) in
       let g : leb (nodeOf t id) 5 && leb (queueOf t id) 63 ≡ true =
@@ -94,6 +98,11 @@ module _ (t : List ℕ) (r : rightTable t ≡ true) (id : ℕ) where
       let x = leb-true (nodeOf t id) 5 (h .0) in
       let y = leb-true (queueOf t id) 63 (h .1) in
       (omega arith, omega arith)
+
+-- 'task 0 unbound'
+pub first-unbound : (t : List ℕ) → rightTable t ≡ true → isBound t 0 ≡ false
+unfolding isBound
+first-unbound t r = rw (right-first t r)
 
 -- what the answer tells of the task
 module _ (t : List ℕ) (id : ℕ) where

@@ -9,7 +9,7 @@ ghost use mathlib.Core.List.{[], _∷_};
 ghost use Prim.Native.Nat.{_*_, _+_, _≤_, _<_};
 ghost use lib.ListN.{length, set};
 ghost use lib.Seq.{sets};
-ghost use Rattle.layout.specs.Places.{nodes, taskQueues, taskIds, nodesAt, node};
+ghost use Rattle.layout.specs.Places.{nodes, taskQueues, nodesAt, node};
 ghost use Rattle.layout.specs.Numbers.{listWords, headerWords};
 ghost use Rattle.layout.specs.Asked.{Sized};
 ghost use Rattle.queues.specs.Queue.{Queue, items, itemAt};
