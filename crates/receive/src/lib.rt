@@ -147,26 +147,12 @@ fn take_letter(node: &mut [u32], s: Settings, q: usize, source: u32, out: &mut [
     }
 }
 
-// The settings that the first five words hold.
-fn settings_of(memory: &[u32]) -> Settings
-    requires { ⌜ settingWords ≤ length (now memory) ⌝ }
-    ensures { λ r. ⌜ r ≡ settingsIn (now (memory .entry)) ⌝ }
-{
-    Settings {
-        b: memory[0] as usize,
-        m: memory[1] as usize,
-        s: memory[2] as usize,
-        a: memory[3] as usize,
-        t: memory[4] as usize,
-    }
-}
-
 // Takes a letter out of queue q of node i, whose stretch is lent.
 fn collect(memory: &mut [u32], i: usize, q: usize, source: u32, out: &mut [u32]) -> Received
     requires { ⌜ Seated (now memory) i q ⌝ }
     ensures { λ r. ⌜ Collects (now (memory .entry)) i q source (now (out .entry)) r (now (memory .exit)) (now (out .exit)) ⌝ }
 {
-    let s = settings_of(memory);
+    let s = sound::settings_in(memory);
     let a = layout::node_at(s, i);
     let e = a + layout::node_size(s);
     take_letter(&mut memory[a..e], s, q, source, out)
