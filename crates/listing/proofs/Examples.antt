@@ -3,7 +3,6 @@ use mathlib.Core.Path.{_≡_, refl}
 use mathlib.Core.List.{List, [], _∷_, _++_}
 use Prim.Native.Nat.{ℕ, zero, suc}
 use lib.ListN.{replicate}
-use Rattle.words.specs.Words.{part}
 use Rattle.settings.specs.declared.Settings.{Settings}
 use Rattle.settings.specs.Made.{settingsOf}
 use Rattle.layout.specs.Places.{sendAt, taskAt, blocksAt, blockAt, nodeSize, nodeAt}
