@@ -1,3 +1,8 @@
+use Rattle.sound.proofs.Tests.{no-first, yes-first}
+use Rattle.layout.proofs.Fits.{nodes-fit}
+use borrow.Author.Tests.{not-true, not-false}
+use native.Mathlib.Omega.{arith}
+use mathlib.Core.Path.{_≡_, refl, sym, _∙_}
 use borrow.Author.Needs.{needs}
 use Rattle.soundness.proofs.is_right_memory.Statement.{statement}
 use Rattle.soundness.proofs.is_right_memory.Tie as tie
@@ -17,7 +22,7 @@ part-is-right-start c = search needs
 
 -- src/lib.rt:241:25
 part-is-right-end : tie.Need-part-is-right-end
-part-is-right-end c = ?
+part-is-right-end c = omega (arith, c .before .pre .long, nodes-fit (c .before .args .s))
 
 -- src/lib.rt:241:9
 is-right-requires : tie.Need-is-right-requires
@@ -25,7 +30,7 @@ is-right-requires c κs = search needs
 
 -- src/lib.rt:242:9
 returns : tie.Need-returns
-returns c = ?
+returns c = no-first _ _ (sym (c .before .is-right .ensures) ∙ not-true _ (c .if1 .taken))
 
 -- src/lib.rt:245:24
 slice-aggregate-seat-tasks : tie.Need-slice-aggregate-seat-tasks
@@ -41,11 +46,11 @@ part-seat-tasks-start c = search needs
 
 -- src/lib.rt:245:36
 part-seat-tasks-end : tie.Need-part-seat-tasks-end
-part-seat-tasks-end c = ?
+part-seat-tasks-end c = omega (arith, c .before .before .before .before .before .pre .long, nodes-fit (c .before .before .before .before .before .args .s))
 
 -- src/lib.rt:245:5
 seat-tasks-requires : tie.Need-seat-tasks-requires
-seat-tasks-requires c κs = ?
+seat-tasks-requires c κs = (refl, sym (c .before .before .before .is-right .ensures) ∙ not-false _ (c .before .before .if1 .left))
 
 -- src/lib.rt:246:32
 slice-aggregate-is-right-seated : tie.Need-slice-aggregate-is-right-seated
@@ -53,11 +58,11 @@ slice-aggregate-is-right-seated c = search needs
 
 -- src/lib.rt:246:5
 is-right-seated-requires : tie.Need-is-right-seated-requires
-is-right-seated-requires c κs = ?
+is-right-seated-requires c κs = (c .before .before .before .before .before .before .before .before .before .pre, (sym (c .before .before .before .before .before .before .is-right .ensures) ∙ not-false _ (c .before .before .before .before .before .if1 .left), c .before .before .seat-tasks .ensures))
 
 -- src/lib.rt:237:1
 returns-2 : tie.Need-returns-2
-returns-2 c = ?
+returns-2 c = yes-first _ _ _ (sym (c .before .before .before .before .before .before .before .is-right .ensures) ∙ not-false _ (c .before .before .before .before .before .before .if1 .left)) (c .is-right-seated .ensures)
 
 pub is-right-memory-spec : {M : Type 1} → statement M
 is-right-memory-spec =

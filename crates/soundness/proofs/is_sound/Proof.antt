@@ -1,3 +1,7 @@
+use Rattle.soundness.proofs.Rules.{made-range}
+use Rattle.soundness.proofs.Rules.{sound-short, sound-refused, sound-range, sound-size, sound-turn, sound-rest}
+use native.Mathlib.Omega.{arith}
+use mathlib.Core.Path.{_≡_, refl, sym, _∙_}
 use borrow.Author.Needs.{needs}
 use Rattle.soundness.proofs.is_sound.Statement.{statement}
 use Rattle.soundness.proofs.is_sound.Tie as tie
@@ -9,7 +13,7 @@ use Rattle.soundness.proofs.is_right_memory.Reads as is-right-memory-re
 
 -- src/lib.rt:254:9
 returns : tie.Need-returns
-returns c = ?
+returns c = sound-short (c .before .before .args .memory .now) (c .if1 .taken)
 
 -- src/lib.rt:256:30
 shared-slice-read-new : tie.Need-shared-slice-read-new
@@ -45,15 +49,15 @@ enum-told c = search needs
 
 -- src/lib.rt:258:9
 returns-2 : tie.Need-returns-2
-returns-2 c = ?
+returns-2 c = sound-refused (c .before .before .before .before .before .before .before .before .before .before .args .memory .now) (sym (c .before .before .new .ensures) ∙ c .enum-told .given .1)
 
 -- src/lib.rt:260:24
 memory-size-requires : tie.Need-memory-size-requires
-memory-size-requires c κs = ?
+memory-size-requires c κs = made-range (c .before .before .before .before .before .before .before .before .before .before .before .args .memory .now) _ (sym (c .before .before .before .new .ensures) ∙ c .before .made .given .1)
 
 -- src/lib.rt:261:9
 returns-3 : tie.Need-returns-3
-returns-3 c = ?
+returns-3 c = sound-size (c .before .before .before .before .before .before .before .before .before .before .before .before .before .args .memory .now) _ (sym (c .before .before .before .before .before .new .ensures) ∙ c .before .before .before .made .given .1) (λ e. c .if2 .taken (e ∙ sym (c .before .memory-size .ensures)))
 
 -- src/lib.rt:263:12
 shared-slice-read-if3 : tie.Need-shared-slice-read-if3
@@ -61,15 +65,15 @@ shared-slice-read-if3 c = search needs
 
 -- src/lib.rt:264:9
 returns-4 : tie.Need-returns-4
-returns-4 c = ?
+returns-4 c = sound-turn (c .before .before .before .before .before .before .before .before .before .before .before .before .before .before .before .args .memory .now) _ (sym (c .before .before .before .before .before .before .before .new .ensures) ∙ c .before .before .before .before .before .made .given .1) (c .before .before .if2 .left ∙ c .before .before .before .memory-size .ensures) (c .if3 .taken)
 
 -- src/lib.rt:266:5
 is-right-memory-requires : tie.Need-is-right-memory-requires
-is-right-memory-requires c κs = ?
+is-right-memory-requires c κs = sound-range (c .before .before .before .before .before .before .before .before .before .before .before .before .before .before .before .args .memory .now) _ (sym (c .before .before .before .before .before .before .before .new .ensures) ∙ c .before .before .before .before .before .made .given .1) (c .before .before .if2 .left ∙ c .before .before .before .memory-size .ensures)
 
 -- src/lib.rt:250:1
 returns-5 : tie.Need-returns-5
-returns-5 c = ?
+returns-5 c = sound-rest (c .before .before .before .before .before .before .before .before .before .before .before .before .before .before .before .before .args .memory .now) _ (sym (c .before .before .before .before .before .before .before .before .new .ensures) ∙ c .before .before .before .before .before .before .made .given .1) (c .before .before .before .if2 .left ∙ c .before .before .before .before .memory-size .ensures) (c .before .if3 .left) _ (c .is-right-memory .ensures)
 
 pub is-sound-spec : {M : Type 1} → statement M
 is-sound-spec =
