@@ -58,7 +58,8 @@ module _ (t : ℕ) where
 
   -- src/lib.rt:55:9
   link-of-requires : lts.Need-link-of-requires calls Pre own.Post
-  link-of-requires c κs = (c .before .before .before .before .before .before .before .before .pre .1 .0, omega arith)
+  link-of-requires c κs =
+      record { stretch = c .before .before .before .before .before .before .before .before .pre .1 .0; low = omega arith; high = omega arith }
 
   -- src/lib.rt:56:33
   sub-visit : lts.Need-sub-visit calls Pre own.Post
