@@ -7,3 +7,4 @@ pub mod Memory
 pub mod Words
 pub mod Trace
 pub mod Calls
+pub mod Formed

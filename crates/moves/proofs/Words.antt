@@ -232,7 +232,8 @@ module _ (s : Settings) (memory : List ℕ) (size : length memory ≡ memorySize
     room : Room k (width s r)
     room = room-place s (core .range) i p h lo hi
 
-    appended-row : (x : ℕ) → rowsOf s (withNode s memory j (appended k m q x)) ≡ putRow R j r (appended k (R j r) 0 x)
+    pub appended-row : (x : ℕ) → rowsOf s (withNode s memory (seat i p) (appended (kind s p) (node s memory (seat i p)) (wordRows.start (width s) (line i p)) x))
+        ≡ putRow (rowsOf s memory) (seat i p) (line i p) (appended (kind s p) (rowsOf s memory (seat i p) (line i p)) 0 x)
     appended-row x =
         row-with s memory size j j6 (appended k m q x) (length-appended k m q x ∙ stretch j j6 .long) r (appended k (R j r) 0 x) (but-appended (width s) m r k room (but-none (width s) m r) x)
 
