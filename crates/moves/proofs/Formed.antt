@@ -18,7 +18,8 @@ use Rattle.machine.specs.Machine.{Letter, firsts, Live, wordsOf, Node, Machine,
 use Rattle.machine.specs.Core.{rowsOf, Core}
 use Rattle.machine.specs.Represents.{Right, RightPosition, WellFormed, Shows, RepresentsAt}
 use Rattle.moves.specs.Moves.{placed}
-use Rattle.moves.proofs.Memory.{with-long, with-word, with-table}
+use Rattle.blocks.proofs.Rows.{rows}
+use Rattle.moves.proofs.Memory.{with-long, with-word, with-table, rows-with}
 
 -- the machine with other nodes
 abbrev pub withNodes : Machine → (ℕ → Node) → Machine
@@ -33,8 +34,8 @@ pub record Fit (table : List ℕ) (m : Machine) (i p : ℕ) (ls : List Letter) :
   pub itself-ack : p ≡ 7 + i → ls ≡ []
   pub unbound : (q : ℕ) → p ≡ 13 + q → taskOf table i q ≡ 0 → ls ≡ []
   -- a letter that a position names stays the first
-  pub waits : (j : ℕ) → p ≡ 1 + j → 1 ≤ m .stage j → m .other j ≡ i → 1 ≤ length ls
-  pub heads : (j : ℕ) → p ≡ 1 + j → 1 ≤ m .stage j → m .other j ≡ i → take 1 (map wordsOf ls) ≡ take 1 (map wordsOf (m .node i .letters p))
+  pub waits : (j : ℕ) → j < 6 → p ≡ 1 + j → 1 ≤ m .stage j → m .other j ≡ i → 1 ≤ length ls
+  pub heads : (j : ℕ) → j < 6 → p ≡ 1 + j → 1 ≤ m .stage j → m .other j ≡ i → take 1 (map wordsOf ls) ≡ take 1 (map wordsOf (m .node i .letters p))
 
 module _ (table : List ℕ) (m : Machine) (formed : WellFormed table m) (i : ℕ) (h : i < 6) (fr : List ℕ) (p : ℕ) (lo : 1 ≤ p) (hi : p < 77) (ls : List Letter) (fit : Fit table m i p ls) where
   abbrev X : Node
@@ -73,11 +74,11 @@ module _ (table : List ℕ) (m : Machine) (formed : WellFormed table m) (i : ℕ
         most = o .most;
         names = o .names;
         another = o .another;
-        waits = λ z. each (λ k q x. k ≡ m .other j → q ≡ 1 + j → 1 ≤ length x) (λ a b. fit .waits j b z (sym a)) (m .other j) (1 + j) (λ n a b. o .waits z) refl refl;
+        waits = λ z. each (λ k q x. k ≡ m .other j → q ≡ 1 + j → 1 ≤ length x) (λ a b. fit .waits j g b z (sym a)) (m .other j) (1 + j) (λ n a b. o .waits z) refl refl;
         hand = λ z. hand ∙ o .hand z;
         copy = λ z. ap (map wordsOf) hand ∙ o .copy z
             ∙ sym (each (λ k q x. k ≡ m .other j → q ≡ 1 + j → take 1 (map wordsOf x) ≡ take 1 (map wordsOf (m .node (m .other j) .letters (1 + j))))
-            (λ a b. fit .heads j b (omega arith) (sym a) ∙ ap₂ (λ (x y : ℕ). take 1 (map wordsOf (m .node x .letters y))) a b)
+            (λ a b. fit .heads j g b (omega arith) (sym a) ∙ ap₂ (λ (x y : ℕ). take 1 (map wordsOf (m .node x .letters y))) a b)
             (m .other j) (1 + j) (λ n a b. refl) refl refl);
       }
 
@@ -99,7 +100,27 @@ module _ (table : List ℕ) (m : Machine) (formed : WellFormed table m) (i : ℕ
 module _ (s : Settings) (memory : List ℕ) (m : Machine) (rep : RepresentsAt s memory m) (i : ℕ) (h : i < 6) (l : List ℕ) (long : length l ≡ nodeSize s)
     (fr : List ℕ) (p : ℕ) (lo : 1 ≤ p) (hi : p < 77) (ls : List Letter) (fit : Fit (tableIn memory) m i p ls)
     (core : Core s (rowsOf s (withNode s memory i l)) (put (m .node) i (placed (m .node i) fr p ls)))
-    (flags : (k q : ℕ) → k < 6 → q < 64 → getD (rowsOf s (withNode s memory i l) k (13 + q)) gapWord 0 ≡ gapFlag (firsts (put (m .node) i (placed (m .node i) fr p ls) k .letters (13 + q)))) where
+    (here : (q : ℕ) → q < 64 → p ≡ 13 + q → getD (rowsOf s (withNode s memory i l) i (13 + q)) gapWord 0 ≡ gapFlag (firsts ls))
+    (others : (q : ℕ) → q < 64 → (p ≡ 13 + q → ⊥) → rowsOf s (withNode s memory i l) i (13 + q) ≡ rowsOf s memory i (13 + q)) where
+  abbrev N′ : ℕ → Node
+  N′ = put (m .node) i (placed (m .node i) fr p ls)
+
+  row-away : (k r : ℕ) → (k ≡ i → ⊥) → rowsOf s (withNode s memory i l) k r ≡ rowsOf s memory k r
+  row-away k r n = ap (λ (Q : ℕ → ℕ → List ℕ). Q k r) (rows-with s memory (rep .size) i h l long) ∙ ap (λ (g : ℕ → List ℕ). g r) (put-other (rowsOf s memory) i (rows s l) k n)
+
+  flags : (k q : ℕ) → k < 6 → q < 64 → getD (rowsOf s (withNode s memory i l) k (13 + q)) gapWord 0 ≡ gapFlag (firsts (N′ k .letters (13 + q)))
+  flags k q a b =
+      same? k i
+      (λ e t. same? p (13 + q)
+      (λ e′ t′. rw e (here q b e′ ∙ ap (λ (x : List Letter). gapFlag (firsts x)) (sym (ap (λ (y : ℕ). N′ i .letters y) (sym e′) ∙ at-here (tableIn memory) m (rep .formed) i h fr p lo hi ls fit))))
+      (λ e′ t′.
+      ap (λ (w : List ℕ). getD w 2 0) (ap (λ (x : ℕ). rowsOf s (withNode s memory i l) x (13 + q)) e ∙ others q b e′ ∙ ap (λ (x : ℕ). rowsOf s memory x (13 + q)) (sym e))
+      ∙ kept k q a b (λ u v. e′ (sym v))))
+      (λ e t. ap (λ (w : List ℕ). getD w 2 0) (row-away k (13 + q) e) ∙ kept k q a b (λ u v. e u))
+    where
+      kept : (k q : ℕ) → k < 6 → q < 64 → (k ≡ i → 13 + q ≡ p → ⊥) → getD (rowsOf s memory k (13 + q)) gapWord 0 ≡ gapFlag (firsts (N′ k .letters (13 + q)))
+      kept k q a b n = rep .shows .flags k q a b ∙ ap (λ (x : List Letter). gapFlag (firsts x)) (sym (at-other (tableIn memory) m (rep .formed) i h fr p lo hi ls fit k (13 + q) n))
+
   word : (k : ℕ) → k < 536 → getD (withNode s memory i l) k 0 ≡ getD memory k 0
   word = with-word s memory (rep .size) i h l long
 

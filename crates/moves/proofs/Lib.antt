@@ -8,3 +8,4 @@ pub mod Words
 pub mod Trace
 pub mod Calls
 pub mod Formed
+pub mod Kept
