@@ -1,50 +1,48 @@
 -- WHAT REPRESENTS A WELL-FORMED MACHINE IS SOUND, and the machine is the one that the memory spells. Assumes nothing.
 use mathlib.Core.Path.{_≡_, refl, sym, ap, ap₂, _∙_, subst}
-use mathlib.Core.Bool.{Bool, true, false, cond, _&&_, _||_, not, false≢true}
-use mathlib.Core.List.{List, [], _∷_, _++_, map}
+use mathlib.Core.Bool.{Bool, true, _&&_, _||_, not}
+use mathlib.Core.List.{List, [], _∷_, map}
 use mathlib.Core.Logic.{⊎-elim}
-use Prim.Native.Nat.{ℕ, zero, suc, _+_, _-_, _*_, _≤_, _<_}
+use Prim.Native.Nat.{ℕ, suc, _+_, _-_, _*_, _≤_, _<_}
 use native.Mathlib.Nat.{zero-mul}
 use native.Mathlib.Omega.{arith}
 use lib.Dec.{eqb, leb}
 use lib.ListN.{length, getD, take}
 use lib.Seq.{getD-take}
-use borrow.Author.Tests.{eq-eqb, ne-eqb, eqb-true, eqb-false, leb-true, le-leb}
-use Rattle.words.specs.Words.{every, all, alike}
-use Rattle.words.specs.Count.{hit, occurs, sum, downFrom}
+use borrow.Author.Tests.{eq-eqb, ne-eqb, le-leb}
+use Rattle.words.specs.Words.{every, all}
+use Rattle.words.specs.Count.{occurs, downFrom}
 use Rattle.words.proofs.Count.{hit-self, down-in, down-range, count-most, sum-le}
-use Rattle.words.proofs.Lists.{split, same?, le-or-lt, and-true, and-join, every-all, all-at, same-alike}
+use Rattle.words.proofs.Lists.{same?, le-or-lt, and-true, and-join, every-all, all-at, same-alike}
 use Rattle.settings.specs.declared.Settings.{Settings}
 use Rattle.settings.specs.Range.{InRange}
-use Rattle.layout.specs.Places.{node, nodeSize, memorySize, gapWord, sendAt, ackAt, taskAt}
-use Rattle.layout.specs.Rows.{width}
-use Rattle.layout.specs.Asked.{Stretch, Sized}
+use Rattle.layout.specs.Places.{node, memorySize, gapWord, sendAt, ackAt, taskAt}
+use Rattle.layout.specs.Asked.{Stretch}
 use Rattle.layout.proofs.NodeRows.{start-send, start-ack, start-task, width-task}
 use Rattle.tasks.specs.Table.{rightTable}
 use Rattle.blocks.specs.Chain.{needs, after, text}
-use Rattle.blocks.proofs.Chains.{Leads, textIn, firstIn}
+use Rattle.blocks.proofs.Chains.{Leads, textIn}
 use Rattle.blocks.proofs.Rows.{rows, first-rows, list-is, after-is, text-rows}
 use Rattle.letters.proofs.Rows.{needs-enough}
 use Rattle.letters.proofs.Copies.{node-stretch}
-use Rattle.queues.specs.Queue.{sendKind, ackKind, taskKind, contents}
+use Rattle.queues.specs.Queue.{sendKind, ackKind, taskKind}
 use Rattle.queues.specs.Items.{live, gapFlag}
 use Rattle.queues.proofs.Items.{FirstLive}
-use Rattle.queues.proofs.Ring.{Ring}
 use Rattle.queues.proofs.InRow.{room-send, room-ack, room-task}
-use Rattle.sound.specs.Reading.{settingsIn, turnIn, stageOf, otherOf, heldOf, tableIn, sendItems, ackItems, taskItems}
-use Rattle.sound.specs.Queues.{inShape, taskOf, isBlock, noneToItself, noneUnbound, firstLive, rightSend, rightAck, rightTask}
-use Rattle.sound.specs.Letters.{chainFrom, endsWell, toldLength, wordsFrom, rightLength, rightHeader, rightPlace, rightLetter}
+use Rattle.sound.specs.Reading.{settingsIn, heldOf, tableIn, sendItems, ackItems, taskItems}
+use Rattle.sound.specs.Queues.{inShape, taskOf, isBlock, noneToItself, noneUnbound, rightSend, rightAck, rightTask}
+use Rattle.sound.specs.Letters.{chainFrom, endsWell, toldLength, wordsFrom, rightLength, rightLetter}
 use Rattle.sound.specs.Positions.{namesOther, holdsCopy, rightPosition, held}
 use Rattle.sound.specs.Blocks.{begun, visits, eachOnce}
 use Rattle.sound.specs.Sound.{sound}
-use Rattle.machine.specs.Machine.{Letter, gap, first, firsts, Live, wordsOf, Node, Machine, All, many}
+use Rattle.machine.specs.Machine.{Letter, first, firsts, Live, wordsOf, Machine, All, many}
 use Rattle.machine.specs.Spelled.{letterFrom, shown, nodeFrom, machineOf}
-use Rattle.machine.specs.Core.{rowsOf, seat, line, kind, Held, Core}
+use Rattle.machine.specs.Core.{rowsOf, Held, Core}
 use Rattle.machine.specs.Represents.{Right, RightPosition, WellFormed, Shows, RepresentsAt, Represents}
 use Rattle.machine.proofs.Letters.{length-firsts, alive, first-in, Among}
 use Rattle.machine.proofs.Places.{at-place, seat-send, line-send, seat-ack, line-ack, seat-task, line-task, kind-send, kind-ack, kind-task, row-ring, row-word, shown-hand, shown-transit, shown-send, shown-ack, shown-task, begun-low, begun-task}
 use Rattle.machine.proofs.Facts.{Facts, facts-sound}
-use Rattle.machine.proofs.Counts.{sum-same, empty, lettersAt, count-visits}
+use Rattle.machine.proofs.Counts.{sum-same, lettersAt, count-visits}
 
 -- each number that stands in the list passes: all pass
 in-all : (p : ℕ → Bool) (l : List ℕ) → ((x : ℕ) → 1 ≤ occurs x l → p x ≡ true) → all p l ≡ true

@@ -13,7 +13,7 @@ use Rattle.queues.proofs.Items.{FirstLive}
 use Rattle.sound.specs.Reading.{settingsIn, turnIn, stageOf, otherOf, heldOf, tableIn}
 use Rattle.sound.specs.Queues.{taskOf}
 use Rattle.sound.specs.Letters.{rightHeader, rightPlace}
-use Rattle.machine.specs.Machine.{Letter, firsts, Live, wordsOf, Node, Machine, All, transit}
+use Rattle.machine.specs.Machine.{firsts, Live, wordsOf, Machine, All, transit}
 use Rattle.machine.specs.Core.{rowsOf, Core}
 
 -- 'a valid length .. and a header of bound tasks on their nodes', at place p of node i

@@ -6,7 +6,7 @@
 --     hand-over     a send item's block appended to an acknowledge queue, and the item dropped
 use mathlib.Core.Path.{_≡_, refl, sym, ap, ap₂, _∙_, subst, fun-ext}
 use mathlib.Core.List.{List, [], _∷_, _++_}
-use Prim.Native.Nat.{ℕ, zero, suc, _+_, _-_, _*_, _≤_, _<_}
+use Prim.Native.Nat.{ℕ, _+_, _-_, _≤_, _<_}
 use native.Mathlib.Omega.{arith}
 use lib.ListN.{length, getD, take, drop}
 use lib.Seq.{length-take-le, getD-take}
@@ -15,22 +15,21 @@ use Rattle.settings.specs.declared.Settings.{Settings}
 use Rattle.layout.specs.Places.{nodeSize, memorySize, node, withNode, sendAt, ackAt, taskAt, firstFreeAt}
 use Rattle.blocks.specs.Chain.{needs, free, text}
 use Rattle.blocks.specs.Moves.{taken, givenBack}
-use Rattle.blocks.proofs.Moves.{length-taken, length-given}
+use Rattle.blocks.proofs.Moves.{length-taken}
 use Rattle.letters.specs.Letter.{written}
 use Rattle.letters.proofs.Rows.{length-laid}
-use Rattle.queues.specs.Queue.{sendKind, ackKind, taskKind}
+use Rattle.queues.specs.Queue.{sendKind, ackKind}
 use Rattle.queues.specs.Moves.{appended, dropped}
 use Rattle.queues.specs.Items.{gapFlag}
 use Rattle.queues.proofs.Tasks.{TaskRing}
 use Rattle.queues.proofs.Views.{length-appended, length-dropped}
 use Rattle.gaps.specs.Close.{taskAppended}
 use Rattle.taking.specs.Take.{takenOut}
-use Rattle.machine.specs.Machine.{Letter, gap, first, firsts, Live, Node, All, many}
-use Rattle.machine.specs.Core.{rowsOf, seat, line, kind, Held, Core}
+use Rattle.machine.specs.Machine.{Letter, gap, first, firsts, Live, Node}
+use Rattle.machine.specs.Core.{rowsOf, Core}
 use Rattle.machine.proofs.Spelled.{list-first}
 use Rattle.machine.proofs.Places.{seat-send, line-send, kind-send}
 use Rattle.blocks.proofs.Rows.{rows}
-use Rattle.layout.specs.Rows.{width}
 use Rattle.layout.proofs.NodeRows.{start-send}
 use Rattle.machine.proofs.Gives.{gives-stretch, gives-list}
 use Rattle.moves.specs.Moves.{putRow, moved, freed, placed, liveOnes, lettersWithout}

@@ -4,22 +4,21 @@
 --     pass-keeps     between the hand and the transit place: no row shows it
 --     head-put     the room count
 use mathlib.Core.Path.{_≡_, refl, sym, ap, _∙_}
-use mathlib.Core.List.{List, [], _∷_, _++_}
-use Prim.Native.Nat.{ℕ, zero, suc, _+_, _-_, _≤_, _<_}
+use mathlib.Core.List.{List, []}
+use Prim.Native.Nat.{ℕ, _+_, _-_, _≤_, _<_}
 use native.Mathlib.Omega.{arith}
-use lib.ListN.{length, getD, set}
+use lib.ListN.{length, getD}
 use Rattle.words.specs.Count.{occurs, sum, downFrom}
 use Rattle.words.proofs.Count.{sum-put, sum-le, sum-two, down-range, down-once}
 use Rattle.words.proofs.Lists.{put, put-same, put-other, same?}
 use Rattle.settings.specs.declared.Settings.{Settings}
-use Rattle.settings.specs.Range.{InRange}
 use Rattle.layout.specs.Rows.{width}
 use Rattle.blocks.proofs.Chains.{Leads, firstIn, Same, leads-same}
 use Rattle.queues.proofs.Ring.{Ring}
-use Rattle.machine.specs.Machine.{Letter, first, firsts, Node, All, many}
+use Rattle.machine.specs.Machine.{Letter, firsts, Node, All, many}
 use Rattle.machine.specs.Core.{seat, line, kind, Held, Core}
 use Rattle.machine.proofs.Letters.{all-same}
-use Rattle.machine.proofs.Places.{seat-in, line-in}
+use Rattle.machine.proofs.Places.{line-in}
 use Rattle.moves.specs.Moves.{putRow, moved, freed}
 use Rattle.moves.proofs.Rows.{row-same, row-other, row-apart, row-long, place-one, moved-at, moved-transit, moved-other, freed-transit, freed-other, put-none, moved-none, freed-none}
 

@@ -1,22 +1,20 @@
 -- One place's letters anew leave a machine well formed, and a stretch anew leaves the other words: so a memory represents the new machine. Assumes nothing.
 --     formed-put     the machine; represents-put     the memory
 use mathlib.Core.Path.{_≡_, refl, sym, ap, ap₂, _∙_, subst}
-use mathlib.Core.Bool.{true}
-use mathlib.Core.List.{List, [], _∷_, _++_, map}
-use Prim.Native.Nat.{ℕ, zero, suc, _+_, _-_, _*_, _≤_, _<_}
+use mathlib.Core.List.{List, [], map}
+use Prim.Native.Nat.{ℕ, _+_, _-_, _*_, _≤_, _<_}
 use native.Mathlib.Omega.{arith}
 use lib.ListN.{length, getD, take}
 use Rattle.words.proofs.Lists.{put, put-same, put-other, same?}
 use Rattle.settings.specs.declared.Settings.{Settings}
-use Rattle.layout.specs.Places.{nodeSize, memorySize, node, withNode, gapWord}
-use Rattle.tasks.specs.Table.{rightTable}
+use Rattle.layout.specs.Places.{nodeSize, node, withNode, gapWord}
 use Rattle.queues.specs.Items.{gapFlag}
 use Rattle.queues.proofs.Items.{FirstLive}
-use Rattle.sound.specs.Reading.{turnIn, stageOf, otherOf, heldOf, tableIn}
+use Rattle.sound.specs.Reading.{tableIn}
 use Rattle.sound.specs.Queues.{taskOf}
 use Rattle.machine.specs.Machine.{Letter, firsts, Live, wordsOf, Node, Machine, All}
 use Rattle.machine.specs.Core.{rowsOf, Core}
-use Rattle.machine.specs.Represents.{Right, RightPosition, WellFormed, Shows, RepresentsAt}
+use Rattle.machine.specs.Represents.{Right, RightPosition, WellFormed, RepresentsAt}
 use Rattle.moves.specs.Moves.{placed}
 use Rattle.blocks.proofs.Rows.{rows}
 use Rattle.moves.proofs.Memory.{with-long, with-word, with-table, rows-with}

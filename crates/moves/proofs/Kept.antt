@@ -1,19 +1,19 @@
 -- FROM SOUND TO SOUND: a send to a task queue or to a send queue, and a receive, in words, keep the memory's machine. Assumes nothing.
---     send-task-kept, send-gap-kept, send-queue-kept, receive-kept
-use mathlib.Core.Path.{_≡_, refl, sym, ap, ap₂, _∙_, subst}
+--     send-task-kept, send-gap-kept, send-queue-kept, receive-kept     the memory after it represents the machine after it
+--     turn-kept     whose turn, stored anew; kept-sound     so it is sound
+use mathlib.Core.Path.{_≡_, refl, sym, ap, _∙_, subst}
 use mathlib.Core.Bool.{true}
 use mathlib.Core.List.{List, [], _∷_, _++_, map}
 use Prim.Native.Nat.{ℕ, zero, suc, _+_, _-_, _*_, _≤_, _<_}
 use native.Mathlib.Nat.{zero-mul}
 use native.Mathlib.Omega.{arith}
-use lib.ListN.{length, getD, take, drop, length-append}
-use lib.Seq.{length-take-le}
-use Rattle.words.specs.Count.{occurs, downFrom}
+use lib.ListN.{length, getD, set, take, drop, length-append, length-set}
+use lib.Seq.{length-take-le, getD-set-same, getD-set-other}
 use Rattle.words.proofs.Count.{occurs-split, down-range}
 use Rattle.words.proofs.Lists.{put}
 use Rattle.settings.specs.declared.Settings.{Settings}
 use Rattle.settings.specs.Range.{InRange}
-use Rattle.layout.specs.Places.{nodeSize, memorySize, node, withNode, sendAt, taskAt, firstFreeAt}
+use Rattle.layout.specs.Places.{turnAt, nodeSize, memorySize, node, withNode, sendAt, taskAt, firstFreeAt}
 use Rattle.blocks.specs.Chain.{needs}
 use Rattle.blocks.specs.Moves.{taken, givenBack}
 use Rattle.blocks.proofs.Moves.{length-taken, length-given}
@@ -28,11 +28,15 @@ use Rattle.gaps.specs.Close.{taskAppended}
 use Rattle.gaps.proofs.Closed.{append-room, append-gap}
 use Rattle.taking.specs.Take.{takenOut}
 use Rattle.taking.proofs.Taken.{taken-task}
-use Rattle.sound.specs.Reading.{tableIn}
+use Rattle.sound.specs.Reading.{settingsIn, tableIn}
+use Rattle.sound.specs.Sound.{sound}
+use Rattle.machine.proofs.Back.{represents-sound-at}
+use Rattle.moves.proofs.Memory.{with-settings, set-rows, set-table}
+use Rattle.layout.proofs.Fits.{nodes-fit}
 use Rattle.sound.specs.Queues.{taskOf}
 use Rattle.machine.specs.Machine.{Letter, gap, first, firsts, Live, wordsOf, Node, Machine, All}
 use Rattle.machine.specs.Core.{rowsOf, Core}
-use Rattle.machine.specs.Represents.{Right, WellFormed, RepresentsAt}
+use Rattle.machine.specs.Represents.{Right, RepresentsAt}
 use Rattle.machine.proofs.Letters.{all-append, firsts-append, length-firsts, first-in}
 use Rattle.machine.proofs.Gives.{gives-stretch, gives-row}
 use Rattle.moves.specs.Moves.{putRow, placed, liveOnes, lettersWithout}
@@ -266,3 +270,40 @@ module _ (s : Settings) (memory : List ℕ) (m : Machine) (rep : RepresentsAt s 
         ∙ ap (λ (w : List ℕ). getD w 2 0) (row-of (13 + q) (omega arith) (omega arith) ∙ row-same (rowsOf s memory) i (13 + q) (takenOut s (rowsOf s memory i (13 + q)) 0 n))
         ∙ after .flag)
         (λ q′ a e. row-of (13 + q′) (omega arith) (omega arith) ∙ row-other (rowsOf s memory) i (13 + q) (takenOut s (rowsOf s memory i (13 + q)) 0 n) i (13 + q′) (λ z. e (sym z)))
+
+-- ---- whose turn it is, stored anew
+pub turn-kept : (s : Settings) (memory : List ℕ) (m : Machine) → RepresentsAt s memory m → (v : ℕ) → v ≤ 5
+    → RepresentsAt s (set memory turnAt v) (record { turn = v; stage = m .stage; other = m .other; node = m .node })
+turn-kept s memory m rep v h =
+    let w : (k : ℕ) → (k ≡ 5 → ⊥) → getD (set memory 5 v) k 0 ≡ getD memory k 0 = λ k n. getD-set-other memory 5 k v 0 n in
+    let e = set-table memory 5 v (omega arith) (omega arith) in
+    let f = rep .formed in
+    record {
+      size = length-set memory 5 v ∙ rep .size;
+      table = rw e (rep .table);
+      core = subst (λ (Q : ℕ → ℕ → List ℕ). Core s Q (m .node)) (sym (set-rows s memory 5 v (omega arith))) (rep .core);
+      shows = record {
+        turn = getD-set-same memory 5 v 0 (rw (rep .size) (omega (arith, nodes-fit s)));
+        stage = λ j g. w (6 + j * 3) (λ z. omega arith) ∙ rep .shows .stage j g;
+        other = λ j g. w (6 + j * 3 + 1) (λ z. omega arith) ∙ rep .shows .other j g;
+        hand = λ j g. w (6 + j * 3 + 2) (λ z. omega arith) ∙ rep .shows .hand j g;
+        flags = λ i q a b. ap (λ (Q : ℕ → ℕ → List ℕ). getD (Q i (13 + q)) 2 0) (set-rows s memory 5 v (omega arith)) ∙ rep .shows .flags i q a b;
+      };
+      formed = rw e (record {
+        turn = h;
+        still = f .still;
+        live = f .live;
+        fronts = f .fronts;
+        itself = f .itself;
+        itself-ack = f .itself-ack;
+        unbound = f .unbound;
+        letters = f .letters;
+        positions = λ j g. let p = f .positions j g in record { none = p .none; most = p .most; names = p .names; another = p .another; waits = p .waits; hand = p .hand; copy = p .copy };
+      });
+    }
+
+-- ---- a sound memory with a stretch anew that represents a machine is sound
+pub kept-sound : (memory : List ℕ) → length memory ≡ memorySize (settingsIn memory) → (i : ℕ) → i < 6 → (l : List ℕ) → length l ≡ nodeSize (settingsIn memory) → (m : Machine)
+    → RepresentsAt (settingsIn memory) (withNode (settingsIn memory) memory i l) m → sound (withNode (settingsIn memory) memory i l) ≡ true
+kept-sound memory z i h l long m rep =
+    represents-sound-at (settingsIn memory) (withNode (settingsIn memory) memory i l) m (with-settings (settingsIn memory) memory z i h l long) rep

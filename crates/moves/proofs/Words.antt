@@ -1,33 +1,34 @@
 -- The moves in words: what each operation on a node's stretch makes of a memory keeps the core. Assumes nothing.
 --     take-words, write-words, give-words     blocks taken, a letter's words written, its chain given back; take-row, write-row, give-row     no queue's row changes
+--     copy-words     a letter of one node copied into blocks of another
 --     append-words, full-words, drop-words     any queue; send-.., ack-..     by kind
 --     task-append-words, task-gap-words, task-full-words, task-take-words, task-empty-words     a task queue
 --     room-words     the room count
-use mathlib.Core.Path.{_≡_, refl, sym, ap, ap₂, _∙_, subst}
+use mathlib.Core.Path.{_≡_, sym, ap, ap₂, _∙_, subst}
 use mathlib.Core.List.{List, [], _∷_, _++_}
-use Prim.Native.Nat.{ℕ, zero, suc, _+_, _-_, _*_, _≤_, _<_}
+use Prim.Native.Nat.{ℕ, suc, _+_, _-_, _≤_, _<_}
 use native.Mathlib.Omega.{arith}
 use lib.ListN.{length, getD, set, take, drop, length-set, length-append, drop-of-length-le}
 use lib.Seq.{split-at, take-suc, length-take-le, getD-set-other}
 use Rattle.words.specs.Words.{more}
 use Rattle.words.specs.Rows as wordRows
-use Rattle.words.specs.Count.{hit, occurs, downFrom}
+use Rattle.words.specs.Count.{occurs}
 use Rattle.words.proofs.Count.{hit-self, occurs-append, occurs-split, down-range}
 use Rattle.words.proofs.Lists.{put, put-same}
-use Rattle.words.proofs.Rows.{But, but-none, but-get, but-set}
+use Rattle.words.proofs.Rows.{But, but-none, but-set}
 use Rattle.settings.specs.declared.Settings.{Settings}
 use Rattle.settings.specs.Range.{InRange}
-use Rattle.layout.specs.Places.{nodeSize, memorySize, node, withNode, sendAt, ackAt, taskAt, roomAt, emptyWord}
+use Rattle.layout.specs.Places.{memorySize, node, withNode, sendAt, ackAt, taskAt, roomAt, emptyWord}
 use Rattle.layout.specs.Rows.{width}
 use Rattle.layout.specs.Asked.{Stretch}
 use Rattle.layout.proofs.NodeRows.{width-head, start-send, start-ack, start-task}
 use Rattle.blocks.specs.Chain.{needs, text}
 use Rattle.blocks.specs.Moves.{taken, givenBack}
-use Rattle.blocks.proofs.Chains.{Leads, textIn, firstIn}
+use Rattle.blocks.proofs.Chains.{Leads, textIn}
 use Rattle.blocks.proofs.Rows.{rows, text-rows}
 use Rattle.blocks.proofs.Laws.{takenRows, givenRows, taken-other, given-other}
 use Rattle.blocks.proofs.Moves.{length-taken, length-given, rows-taken, rows-given}
-use Rattle.letters.specs.Letter.{laid, written}
+use Rattle.letters.specs.Letter.{laid, written, copied}
 use Rattle.letters.proofs.Rows.{length-laid, rows-written}
 use Rattle.letters.proofs.Texts.{fill, fill-other}
 use Rattle.queues.specs.declared.Kind.{Kind}
@@ -41,12 +42,12 @@ use Rattle.gaps.specs.Close.{taskAppended}
 use Rattle.gaps.proofs.InRow.{but-task-appended}
 use Rattle.taking.specs.Take.{takenOut}
 use Rattle.taking.proofs.InRow.{but-taken}
-use Rattle.machine.specs.Machine.{Letter, gap, first, firsts, Node, All, many}
-use Rattle.machine.specs.Core.{rowsOf, seat, line, kind, Held, Core}
-use Rattle.machine.proofs.Places.{at-place, seat-in, line-in, seat-send, line-send, kind-send, seat-ack, line-ack, kind-ack, line-task, kind-task}
-use Rattle.machine.proofs.Gives.{gives-stretch, gives-list}
+use Rattle.machine.specs.Machine.{Letter, gap, first, firsts, Node}
+use Rattle.machine.specs.Core.{rowsOf, seat, line, kind, Core}
+use Rattle.machine.proofs.Places.{at-place, seat-in, seat-send, line-send, kind-send, seat-ack, line-ack, kind-ack, line-task, kind-task}
+use Rattle.machine.proofs.Gives.{gives-stretch, gives-list, gives-letter}
 use Rattle.moves.specs.Moves.{putRow, moved, freed, liveOnes, lettersWithout}
-use Rattle.moves.proofs.Core.{free-most, many-most, head-put}
+use Rattle.moves.proofs.Core.{free-most, head-put}
 use Rattle.moves.proofs.Chains.{take-keeps, write-keeps, give-keeps, held-one, in-chain}
 use Rattle.moves.proofs.Queues.{append-keeps, full-keeps, drop-keeps, task-append, task-append-gap, task-full, task-take, task-empty}
 use Rattle.moves.proofs.Queues as queues
@@ -208,6 +209,16 @@ module _ (s : Settings) (memory : List ℕ) (size : length memory ≡ memorySize
         subst (λ (Q : ℕ → ℕ → List ℕ). Core s Q N) (sym e)
         (head-put s R N core i h (set (R i 0) (0 + 1) (more (getD l 1 0))) (length-set (R i 0) (0 + 1) (more (getD l 1 0)))
         (getD-set-other (R i 0) (0 + 1) 0 (more (getD l 1 0)) 0 (λ z. omega arith)))
+
+  -- COPY: the letter at index n of place p of node i, into the blocks of the letter on its way in node j
+  pub copy-words : (i p n j : ℕ) → i < 6 → p < 78 → n < length (N i .letters p) → j < 6 → (L : Letter) → N j .letters 77 ≡ L ∷ [] → length (L .chain) ≡ needs s (length (getD (N i .letters p) n gap .words))
+      → Core s (rowsOf s (copied s memory (length (getD (N i .letters p) n gap .words)) i (first (getD (N i .letters p) n gap)) j (first L)))
+      (put N j (freed (N j) (N j .free) (record { chain = L .chain; words = getD (N i .letters p) n gap .words } ∷ [])))
+  unfolding copied
+  copy-words i p n j h g is h′ L one need =
+      subst (λ (ws : List ℕ). Core s (rowsOf s (withNode s memory j (written s (node s memory j) (first L) ws))) (put N j (freed (N j) (N j .free) (record { chain = L .chain; words = getD (N i .letters p) n gap .words } ∷ []))))
+      (sym (gives-letter s memory size N core i p n h g is))
+      (write-words j h′ L one (getD (N i .letters p) n gap .words) need)
 
   -- ---- any queue
   module _ (i p : ℕ) (h : i < 6) (lo : 1 ≤ p) (hi : p < 77) where
