@@ -214,8 +214,8 @@ module _ (s : Settings) (memory : List ℕ) (M : Machine) (size : length memory 
       let e = send-back i k h g in
       rw (e .0, e .1)
       (and-join (noneToItself s memory i k (firsts (ls i (1 + k)))) (all (isBlock s memory i) (firsts (ls i (1 + k))))
-      (same? k i (λ q t. rw (t, q, formed .itself i h)) (λ q t. rw t))
-      (blocks-back (s .m) (ls i (1 + k)) (among i (1 + k) h (omega arith)) (formed .live i (1 + k) h (omega arith))))
+      (same? k i (λ q t. rw (t, q, formed .order .itself i h)) (λ q t. rw t))
+      (blocks-back (s .m) (ls i (1 + k)) (among i (1 + k) h (omega arith)) (formed .order .live i (1 + k) h (omega arith))))
 
   acks : (i k : ℕ) → i < 6 → k < 6 → rightAck s memory i k ≡ true
   unfolding rightAck
@@ -223,8 +223,8 @@ module _ (s : Settings) (memory : List ℕ) (M : Machine) (size : length memory 
       let e = ack-back i k h g in
       rw (e .0, e .1)
       (and-join (noneToItself s memory i k (firsts (ls k (7 + i)))) (all (isBlock s memory i) (firsts (ls k (7 + i))))
-      (same? k i (λ q t. rw (t, q, formed .itself-ack i h)) (λ q t. rw t))
-      (blocks-back (s .m) (ls k (7 + i)) (among k (7 + i) g (omega arith)) (formed .live k (7 + i) g (omega arith))))
+      (same? k i (λ q t. rw (t, q, formed .order .itself-ack i h)) (λ q t. rw t))
+      (blocks-back (s .m) (ls k (7 + i)) (among k (7 + i) g (omega arith)) (formed .order .live k (7 + i) g (omega arith))))
 
   flag-back : (i q : ℕ) → i < 6 → q < 64 → getD (node s memory i) (taskAt s q + gapWord) 0 ≡ gapFlag (firsts (ls i (13 + q)))
   flag-back i q h g =
@@ -237,9 +237,9 @@ module _ (s : Settings) (memory : List ℕ) (M : Machine) (size : length memory 
   tasks i q h g =
       let e = task-back i q h g in
       let xs : List ℕ = firsts (ls i (13 + q)) in
-      rw (e .0, e .1, items-back (s .m) (ls i (13 + q)) (among i (13 + q) h (omega arith)), first-test xs (formed .fronts i q h g))
+      rw (e .0, e .1, items-back (s .m) (ls i (13 + q)) (among i (13 + q) h (omega arith)), first-test xs (formed .order .fronts i q h g))
       (and-join (noneUnbound s memory i q xs) (eqb (getD (node s memory i) (taskAt s q + gapWord) 0) (gapFlag xs))
-      (same? (taskOf (tableIn memory) i q) 0 (λ z t. rw (t, formed .unbound i q h g z)) (λ z t. rw t))
+      (same? (taskOf (tableIn memory) i q) 0 (λ z t. rw (t, formed .order .unbound i q h g z)) (λ z t. rw t))
       (eq-eqb (getD (node s memory i) (taskAt s q + gapWord) 0) (gapFlag xs) (flag-back i q h g)))
 
   -- ---- the hand
@@ -289,10 +289,10 @@ module _ (s : Settings) (memory : List ℕ) (M : Machine) (size : length memory 
   letters-same : (i p : ℕ) → i < 6 → p < 78 → lettersAt s memory i p ≡ ls i p
   letters-same i p h g =
       same? p 77
-      (λ q e. rw (q, shown-transit s memory i, formed .still i h))
+      (λ q e. rw (q, shown-transit s memory i, formed .order .still i h))
       (λ q e.
       ap (map (letterFrom s (node s memory i))) (shown-back i p h (omega arith))
-      ∙ letters-back s (node s memory i) (stretch i h) (tableIn memory) i p (ls i p) (among i p h g) (core .letters i p h g) (formed .letters i p h (omega arith)))
+      ∙ letters-back s (node s memory i) (stretch i h) (tableIn memory) i p (ls i p) (among i p h g) (core .letters i p h g) (formed .order .letters i p h (omega arith)))
 
   few-free : (i : ℕ) → i < 6 → (x : ℕ) → occurs x (M .node i .free) ≤ occurs x (downFrom (s .m))
   few-free i h x = omega (arith, core .once i x h)
@@ -320,11 +320,11 @@ module _ (s : Settings) (memory : List ℕ) (M : Machine) (size : length memory 
   letters : (i p : ℕ) → i < 6 → p < 77 → all (rightLetter s (node s memory i) (tableIn memory) i p) (begun s memory i p) ≡ true
   letters i p h g =
       let u = core .letters i p h (omega arith) in
-      let v = formed .letters i p h g in
+      let v = formed .order .letters i p h g in
       let a = among i p h (omega arith) in
       ⊎-elim
       (λ b. rw (begun-task s memory i p b g, shown-back i p h g) (tests-live s (node s memory i) (stretch i h) (tableIn memory) i p (ls i p) a u v))
-      (λ b. rw (begun-low s memory i p b, shown-back i p h g) (tests-back s (node s memory i) (stretch i h) (tableIn memory) i p (ls i p) a u v (formed .live i p h b)))
+      (λ b. rw (begun-low s memory i p b, shown-back i p h g) (tests-back s (node s memory i) (stretch i h) (tableIn memory) i p (ls i p) a u v (formed .order .live i p h b)))
       (le-or-lt 13 p)
 
   -- ---- positions
@@ -341,7 +341,7 @@ module _ (s : Settings) (memory : List ℕ) (M : Machine) (size : length memory 
         (le-leb 1 (length (ls o (1 + j))) (p .waits z))
 
     front : (i p : ℕ) → i < 6 → p < 77 → 1 ≤ length (ls i p) → wordsFrom s (node s memory i) (getD (firsts (ls i p)) 0 0) ∷ [] ≡ take 1 (map wordsOf (ls i p))
-    front i p a g n = front-back s (node s memory i) (stretch i a) (tableIn memory) i p (ls i p) (among i p a (omega arith)) (core .letters i p a (omega arith)) (formed .letters i p a g) n
+    front i p a g n = front-back s (node s memory i) (stretch i a) (tableIn memory) i p (ls i p) (among i p a (omega arith)) (core .letters i p a (omega arith)) (formed .order .letters i p a g) n
 
     copy-back : M .stage j ≡ 2 → holdsCopy s memory j ≡ true
     unfolding holdsCopy
@@ -361,7 +361,7 @@ module _ (s : Settings) (memory : List ℕ) (M : Machine) (size : length memory 
     held-back : M .stage j ≡ 2 → (leb 1 (heldOf memory j) ≡ true) × (leb (heldOf memory j) (s .m) ≡ true)
     held-back q =
         let d = one j h q in
-        let e = all-at (λ b. leb 1 b && leb b (s .m)) (firsts (ls j 0)) (blocks-back (s .m) (ls j 0) (among j 0 h (omega arith)) (formed .live j 0 h (omega arith))) 0 (rw (length-firsts (ls j 0)) (omega arith)) in
+        let e = all-at (λ b. leb 1 b && leb b (s .m)) (firsts (ls j 0)) (blocks-back (s .m) (ls j 0) (among j 0 h (omega arith)) (formed .order .live j 0 h (omega arith))) 0 (rw (length-firsts (ls j 0)) (omega arith)) in
         rw (shows .hand j h) (and-true (leb 1 (getD (firsts (ls j 0)) 0 0)) (leb (getD (firsts (ls j 0)) 0 0) (s .m)) e)
 
     position : rightPosition s memory j ≡ true

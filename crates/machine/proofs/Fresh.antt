@@ -256,13 +256,15 @@ module _ (s : Settings) (r : InRange s) where
     formed-fresh =
         record {
           turn = omega arith;
-          still = λ i g. refl;
-          live = λ i p g k. tt;
-          fronts = λ i q g k a e. omega arith;
-          itself = λ i g. refl;
-          itself-ack = λ i g. refl;
-          unbound = λ i q g k z. refl;
-          letters = λ i p g k. tt;
+          order = record {
+            still = λ i g. refl;
+            live = λ i p g k. tt;
+            fronts = λ i q g k a e. omega arith;
+            itself = λ i g. refl;
+            itself-ack = λ i g. refl;
+            unbound = λ i q g k z. refl;
+            letters = λ i p g k. tt;
+          };
           positions = λ j g. record {
             none = λ z. refl;
             most = omega arith;

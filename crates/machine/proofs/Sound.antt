@@ -36,7 +36,7 @@ use Rattle.sound.specs.Sound.{sound}
 use Rattle.machine.specs.Machine.{Letter, gap, Live, wordsOf, Machine, All, many}
 use Rattle.machine.specs.Spelled.{letterFrom, shown, nodeFrom, machineOf}
 use Rattle.machine.specs.Core.{rowsOf, seat, line, kind, Held, Core}
-use Rattle.machine.specs.Represents.{Right, RightPosition, WellFormed, Shows, Represents}
+use Rattle.machine.specs.Represents.{Right, RightPosition, InOrder, WellFormed, Shows, Represents}
 use Rattle.machine.proofs.Places.{at-place, seat-send, line-send, seat-ack, line-ack, seat-task, line-task, kind-send, kind-ack, kind-task, ring-row, row-word, shown-hand, shown-transit, shown-send, shown-ack, shown-task, begun-low, begun-task}
 use Rattle.machine.proofs.Facts.{Facts, sound-facts}
 use Rattle.machine.proofs.Counts.{sum-none, empty, gap-held, lettersAt, count-visits}
@@ -334,11 +334,10 @@ module _ (s : Settings) (memory : List ℕ) (f : Facts s memory) where
       copy [] n e = absurd (omega arith)
       copy (x ∷ xs) n e = ap (λ (w : List ℕ). w ∷ []) (words-from s (node s memory j) (heldOf memory j) ∙ e ∙ sym (words-from s (node s memory (otherOf memory j)) x))
 
-  formed-of : WellFormed (tableIn memory) M
+  order-of : InOrder (tableIn memory) (nodeFrom s memory)
   unfolding nodeFrom
-  formed-of =
+  order-of =
       record {
-        turn = f .turn;
         still = λ i h. rw (shown-transit s memory i);
         live = letters-live;
         fronts = λ i q h g. rw (firsts-from s (node s memory i) r (shown s memory i (13 + q)), shown-task s memory i q g) (first-live (taskItems s memory i q) (task-parts i q h g .2));
@@ -346,6 +345,13 @@ module _ (s : Settings) (memory : List ℕ) (f : Facts s memory) where
         itself-ack = λ i h. rw (shown-ack s memory i i h, none-itself i i (ackItems s memory i i) (ack-parts i i h h .1) refl);
         unbound = λ i q h g z. rw (shown-task s memory i q g, empty (taskItems s memory i q) (eqb-true (length (taskItems s memory i q)) 0 (rw (eq-eqb (taskOf (tableIn memory) i q) 0 z) at (task-parts i q h g .1))));
         letters = letters-right;
+      }
+
+  formed-of : WellFormed (tableIn memory) M
+  formed-of =
+      record {
+        turn = f .turn;
+        order = order-of;
         positions = position-of;
       }
 

@@ -45,7 +45,7 @@ use Rattle.moves.proofs.Core.{free-most}
 use Rattle.moves.proofs.Items.{firsts-live, all-live, firsts-without, all-without}
 use Rattle.moves.proofs.Queues.{length-task-appended, length-taken-out}
 use Rattle.moves.proofs.Calls.{send-task-row, send-task-other, send-task-words, send-gap-words, send-queue-words, send-queue-other, receive-words, receive-row}
-use Rattle.moves.proofs.Formed.{withNodes, Fit, represents-put}
+use Rattle.moves.proofs.Formed.{withNodes, Fit, Heads, represents-put}
 
 -- a letter needs a block at least
 needs-some : (s : Settings) → InRange s → (n : ℕ) → 1 ≤ n → 1 ≤ needs s n
@@ -71,7 +71,11 @@ module _ (s : Settings) (memory : List ℕ) (m : Machine) (rep : RepresentsAt s 
   table = tableIn memory
 
   ring : (i q : ℕ) → i < 6 → q < 64 → TaskRing s (rowsOf s memory i (13 + q)) 0 (firsts (N i .letters (13 + q)))
-  ring i q h g = gives-row s memory (rep .size) N core i q h g (rep .shows .flags i q h g) (rep .formed .fronts i q h g)
+  ring i q h g = gives-row s memory (rep .size) N core i q h g (rep .shows .flags i q h g) (rep .formed .order .fronts i q h g)
+
+  -- no position names a task queue
+  no-heads : (p : ℕ) → 7 ≤ p → (i : ℕ) (ls : List Letter) (j : ℕ) → j < 6 → Heads m i p ls j
+  no-heads p c i ls j a = record { waits = λ e. absurd (omega arith); heads = λ e. absurd (omega arith) }
 
   -- ---- a letter with words ws taken from the free list of node i
   module _ (i : ℕ) (h : i < 6) (p : ℕ) (ws : List ℕ) (ok : Right (tableIn memory) i p ws) (has : needs s (length ws) ≤ length (m .node i .free)) where
@@ -94,7 +98,7 @@ module _ (s : Settings) (memory : List ℕ) (m : Machine) (rep : RepresentsAt s 
         omega arith
 
     none : N i .letters 77 ≡ []
-    none = rep .formed .still i h
+    none = rep .formed .order .still i h
 
     -- the stretch with the letter written
     abbrev l₂ : List ℕ
@@ -119,7 +123,7 @@ module _ (s : Settings) (memory : List ℕ) (m : Machine) (rep : RepresentsAt s 
     long₃ : length l₃ ≡ nodeSize s
     long₃ = length-task-appended s (l₂ i h (13 + q) ws ok has) (taskAt s q) (getD (node s memory i) 0 0) ∙ long₂ i h (13 + q) ws ok has
 
-    fit : (ks : List Letter) → All (λ X. Live X → Right table i (13 + q) (X .words)) ks → TaskRing s (taskAppended s (rowsOf s memory i (13 + q)) 0 (first K)) 0 (firsts ks) → Fit table m i (13 + q) ks
+    fit : (ks : List Letter) → All (λ X. Live X → Right table i (13 + q) (X .words)) ks → TaskRing s (taskAppended s (rowsOf s memory i (13 + q)) 0 (first K)) 0 (firsts ks) → Fit table i (13 + q) ks
     fit ks r t =
         record {
           live = λ c. absurd (omega arith);
@@ -128,8 +132,6 @@ module _ (s : Settings) (memory : List ℕ) (m : Machine) (rep : RepresentsAt s 
           itself = λ e. absurd (omega arith);
           itself-ack = λ e. absurd (omega arith);
           unbound = λ q′ e z. absurd (bound (subst (λ (x : ℕ). taskOf table i x ≡ 0) (same-q q′ e) z));
-          waits = λ j a e. absurd (omega arith);
-          heads = λ j a e. absurd (omega arith);
         }
       where
         same-q : (q′ : ℕ) → 13 + q ≡ 13 + q′ → q′ ≡ q
@@ -155,8 +157,8 @@ module _ (s : Settings) (memory : List ℕ) (m : Machine) (rep : RepresentsAt s 
         let ks : List Letter = ls ++ K ∷ [] in
         let t : TaskRing s (taskAppended s (rowsOf s memory i (13 + q)) 0 (first K)) 0 (firsts ks) =
         rw (firsts-append ls (K ∷ [])) (append-room s (rowsOf s memory i (13 + q)) 0 (firsts ls) (ring i q h g) (first K) (begins i h (13 + q) ws ok has) (rw (length-firsts ls) less) .0) in
-        let r = all-append (λ (X : Letter). Live X → Right table i (13 + q) (X .words)) ls (K ∷ []) (rep .formed .letters i (13 + q) h (omega arith)) ((λ a. ok), tt) in
-        represents-put s memory m rep i h l₃ long₃ (drop (needs s (length ws)) (N i .free)) (13 + q) (omega arith) (omega arith) ks (fit ks r t)
+        let r = all-append (λ (X : Letter). Live X → Right table i (13 + q) (X .words)) ls (K ∷ []) (rep .formed .order .letters i (13 + q) h (omega arith)) ((λ a. ok), tt) in
+        represents-put s memory m rep i h l₃ long₃ (drop (needs s (length ws)) (N i .free)) (13 + q) (omega arith) (omega arith) ks (fit ks r t) (no-heads (13 + q) (omega arith) i ks)
         (send-task-words s memory (rep .size) N core i h (none i h (13 + q) ws ok has) ws (some i h (13 + q) ws ok has) has q g (ring i q h g) (begins i h (13 + q) ws ok has) less)
         (here ks t) other
 
@@ -169,8 +171,8 @@ module _ (s : Settings) (memory : List ℕ) (m : Machine) (rep : RepresentsAt s 
         let t : TaskRing s (taskAppended s (rowsOf s memory i (13 + q)) 0 (first K)) 0 (firsts ks) =
         rw (firsts-append (liveOnes ls) (K ∷ []), firsts-live ls) (append-gap s (rowsOf s memory i (13 + q)) 0 (firsts ls) (ring i q h g) (first K) (begins i h (13 + q) ws ok has) (length-firsts ls ∙ full) gaps .0) in
         let P : Letter → Type 0 = λ X. Live X → Right table i (13 + q) (X .words) in
-        let r = all-append P (liveOnes ls) (K ∷ []) (all-live P ls (rep .formed .letters i (13 + q) h (omega arith))) ((λ a. ok), tt) in
-        represents-put s memory m rep i h l₃ long₃ (drop (needs s (length ws)) (N i .free)) (13 + q) (omega arith) (omega arith) ks (fit ks r t)
+        let r = all-append P (liveOnes ls) (K ∷ []) (all-live P ls (rep .formed .order .letters i (13 + q) h (omega arith))) ((λ a. ok), tt) in
+        represents-put s memory m rep i h l₃ long₃ (drop (needs s (length ws)) (N i .free)) (13 + q) (omega arith) (omega arith) ks (fit ks r t) (no-heads (13 + q) (omega arith) i ks)
         (send-gap-words s memory (rep .size) N core i h (none i h (13 + q) ws ok has) ws (some i h (13 + q) ws ok has) has q g (ring i q h g) (begins i h (13 + q) ws ok has) full gaps)
         (here ks t) other
 
@@ -195,23 +197,28 @@ module _ (s : Settings) (memory : List ℕ) (m : Machine) (rep : RepresentsAt s 
         let d : j ≡ k = omega arith in
         subst (λ (x : ℕ). 1 ≤ length (m .node i .letters (1 + x))) d (subst (λ (x : ℕ). 1 ≤ length (m .node x .letters (1 + j))) o w)
 
-    fit-queue : Fit table m i (1 + k) (qs ++ J ∷ [])
+    fit-queue : Fit table i (1 + k) (qs ++ J ∷ [])
     fit-queue =
         record {
-          live = λ c. all-append Live qs (J ∷ []) (rep .formed .live i (1 + k) h (omega arith)) (live-l i h (1 + k) ws ok has, tt);
+          live = λ c. all-append Live qs (J ∷ []) (rep .formed .order .live i (1 + k) h (omega arith)) (live-l i h (1 + k) ws ok has, tt);
           front = λ c. absurd (omega arith);
-          right = all-append (λ (X : Letter). Live X → Right table i (1 + k) (X .words)) qs (J ∷ []) (rep .formed .letters i (1 + k) h (omega arith)) ((λ a. ok), tt);
+          right = all-append (λ (X : Letter). Live X → Right table i (1 + k) (X .words)) qs (J ∷ []) (rep .formed .order .letters i (1 + k) h (omega arith)) ((λ a. ok), tt);
           itself = λ e. absurd (apart (omega arith));
           itself-ack = λ e. absurd (omega arith);
           unbound = λ q e. absurd (omega arith);
-          waits = λ j a e z o. rw (length-append qs (J ∷ [])) (omega arith);
-          heads = λ j a e z o. heads-append qs (J ∷ []) (named j a e z o);
+        }
+
+    heads-queue : (j : ℕ) → j < 6 → Heads m i (1 + k) (qs ++ J ∷ []) j
+    heads-queue j a =
+        record {
+          waits = λ e z o. rw (length-append qs (J ∷ [])) (omega arith);
+          heads = λ e z o. heads-append qs (J ∷ []) (named j a e z o);
         }
 
     pub send-queue-kept : RepresentsAt s (withNode s memory i (appended (sendKind s) (written s (taken s (node s memory i) (needs s (length ws))) (getD (node s memory i) firstFreeAt 0) ws) (sendAt s k) (getD (node s memory i) firstFreeAt 0)))
         (withNodes m (put (m .node) i (placed (m .node i) (drop (needs s (length ws)) (m .node i .free)) (1 + k) (m .node i .letters (1 + k) ++ record { chain = take (needs s (length ws)) (m .node i .free); words = ws } ∷ []))))
     send-queue-kept =
-        represents-put s memory m rep i h l₄ long₄ (drop (needs s (length ws)) (N i .free)) (1 + k) (omega arith) (omega arith) (qs ++ J ∷ []) fit-queue
+        represents-put s memory m rep i h l₄ long₄ (drop (needs s (length ws)) (N i .free)) (1 + k) (omega arith) (omega arith) (qs ++ J ∷ []) fit-queue heads-queue
         (send-queue-words s memory (rep .size) N core i h (none i h (1 + k) ws ok has) ws (some i h (1 + k) ws ok has) has k g less)
         (λ q a e. absurd (omega arith))
         (λ q a e. send-queue-other s memory (rep .size) N core i h (none i h (1 + k) ws ok has) ws (some i h (1 + k) ws ok has) has k g (13 + q) (omega arith) (omega arith) (λ z. e (sym z)))
@@ -233,7 +240,7 @@ module _ (s : Settings) (memory : List ℕ) (m : Machine) (rep : RepresentsAt s 
         ∙ length-taken-out s (node s memory i) (taskAt s q) n ∙ gives-stretch s memory (rep .size) N core i h .long
 
     still : N i .letters 77 ≡ []
-    still = rep .formed .still i h
+    still = rep .formed .order .still i h
 
     after : TaskRing s (takenOut s (rowsOf s memory i (13 + q)) 0 n) 0 (firsts (lettersWithout n ts))
     after = rw (firsts-without n ts) (taken-task s (rowsOf s memory i (13 + q)) 0 (firsts ts) n (ring i q h g) (rw (length-firsts ts) is))
@@ -241,17 +248,15 @@ module _ (s : Settings) (memory : List ℕ) (m : Machine) (rep : RepresentsAt s 
     row-of : (r : ℕ) → 1 ≤ r → r < 77 → rowsOf s (withNode s memory i l₅) i r ≡ putRow (rowsOf s memory) i (13 + q) (takenOut s (rowsOf s memory i (13 + q)) 0 n) i r
     row-of = receive-row s memory (rep .size) N core i q n h g still (ring i q h g) is live
 
-    fit-rest : Fit table m i (13 + q) (lettersWithout n ts)
+    fit-rest : Fit table i (13 + q) (lettersWithout n ts)
     fit-rest =
         record {
           live = λ c. absurd (omega arith);
           front = λ c. after .first;
-          right = all-without (λ (X : Letter). Live X → Right table i (13 + q) (X .words)) n ts (λ a. absurd (omega arith)) (rep .formed .letters i (13 + q) h (omega arith));
+          right = all-without (λ (X : Letter). Live X → Right table i (13 + q) (X .words)) n ts (λ a. absurd (omega arith)) (rep .formed .order .letters i (13 + q) h (omega arith));
           itself = λ e. absurd (omega arith);
           itself-ack = λ e. absurd (omega arith);
-          unbound = λ q′ e z. absurd (nothing (rep .formed .unbound i q h g (subst (λ (x : ℕ). taskOf table i x ≡ 0) (same-q q′ e) z)));
-          waits = λ j a e. absurd (omega arith);
-          heads = λ j a e. absurd (omega arith);
+          unbound = λ q′ e z. absurd (nothing (rep .formed .order .unbound i q h g (subst (λ (x : ℕ). taskOf table i x ≡ 0) (same-q q′ e) z)));
         }
       where
         same-q : (q′ : ℕ) → 13 + q ≡ 13 + q′ → q′ ≡ q
@@ -263,7 +268,7 @@ module _ (s : Settings) (memory : List ℕ) (m : Machine) (rep : RepresentsAt s 
     pub receive-kept : RepresentsAt s (withNode s memory i (givenBack s (takenOut s (node s memory i) (taskAt s q) n) (length (getD (m .node i .letters (13 + q)) n gap .chain)) (first (getD (m .node i .letters (13 + q)) n gap))))
         (withNodes m (put (m .node) i (placed (m .node i) (getD (m .node i .letters (13 + q)) n gap .chain ++ m .node i .free) (13 + q) (lettersWithout n (m .node i .letters (13 + q))))))
     receive-kept =
-        represents-put s memory m rep i h l₅ long₅ (T .chain ++ N i .free) (13 + q) (omega arith) (omega arith) (lettersWithout n ts) fit-rest
+        represents-put s memory m rep i h l₅ long₅ (T .chain ++ N i .free) (13 + q) (omega arith) (omega arith) (lettersWithout n ts) fit-rest (no-heads (13 + q) (omega arith) i (lettersWithout n ts))
         (receive-words s memory (rep .size) N core i q n h g still (ring i q h g) is live)
         (λ q′ a e.
         ap (λ (y : ℕ). getD (rowsOf s (withNode s memory i l₅) i y) 2 0) (sym e)
@@ -291,13 +296,7 @@ turn-kept s memory m rep v h =
       };
       formed = rw e (record {
         turn = h;
-        still = f .still;
-        live = f .live;
-        fronts = f .fronts;
-        itself = f .itself;
-        itself-ack = f .itself-ack;
-        unbound = f .unbound;
-        letters = f .letters;
+        order = f .order;
         positions = λ j g. let p = f .positions j g in record { none = p .none; most = p .most; names = p .names; another = p .another; waits = p .waits; hand = p .hand; copy = p .copy };
       });
     }
