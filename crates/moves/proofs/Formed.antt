@@ -1,5 +1,6 @@
--- One place's letters anew leave a machine well formed, and a stretch anew leaves the other words: so a memory represents the new machine. Assumes nothing.
---     order-put, flags-put     nodes and rows; position-put, formed-put     the machine; represents-put     the memory
+-- One place's letters anew leave the nodes in order, and a stretch anew leaves the other words: so a memory represents the new machine. Assumes nothing.
+--     order-put, flags-put     nodes and rows; position-put     a position; working-put     the memory
+--     begins-working, ends-working     from a represented machine to what holds between moves, and back
 use mathlib.Core.Path.{_≡_, refl, sym, ap, ap₂, _∙_, subst}
 use mathlib.Core.List.{List, [], map}
 use Prim.Native.Nat.{ℕ, _+_, _-_, _*_, _≤_, _<_}
@@ -16,8 +17,8 @@ use Rattle.machine.specs.Machine.{Letter, firsts, Live, wordsOf, Node, Machine,
 use Rattle.machine.specs.Core.{rowsOf, Core}
 use Rattle.machine.specs.Represents.{Right, RightPosition, InOrder, Flagged, WellFormed, RepresentsAt}
 use Rattle.moves.specs.Moves.{placed}
-use Rattle.blocks.proofs.Rows.{rows}
-use Rattle.moves.proofs.Memory.{with-long, with-word, with-table, rows-with}
+use Rattle.moves.specs.Working.{Working}
+use Rattle.moves.proofs.Memory.{with-long, with-word, with-table, rows-away}
 
 -- the machine with other nodes
 abbrev pub withNodes : Machine → (ℕ → Node) → Machine
@@ -104,55 +105,46 @@ module _ (m : Machine) (i : ℕ) (fr : List ℕ) (p : ℕ) (lo : 1 ≤ p) (ls : 
             (m .other j) (1 + j) (λ n a b. refl) refl refl);
       }
 
-  pub formed-put : (table : List ℕ) → WellFormed table m → p < 77 → Fit table i p ls → ((j : ℕ) → j < 6 → Heads m i p ls j)
-      → WellFormed table (withNodes m (put (m .node) i (placed (m .node i) fr p ls)))
-  formed-put table f hi fit heads =
-      record {
-        turn = f .turn;
-        order = order-put (m .node) i fr p ls table (f .order) hi fit;
-        positions = λ j g. position-put j (f .positions j g) (heads j g);
-      }
-
 -- ---- THE MEMORY with node i's stretch anew
-module _ (s : Settings) (memory : List ℕ) (m : Machine) (rep : RepresentsAt s memory m) (i : ℕ) (h : i < 6) (l : List ℕ) (long : length l ≡ nodeSize s)
-    (fr : List ℕ) (p : ℕ) (lo : 1 ≤ p) (hi : p < 77) (ls : List Letter) (fit : Fit (tableIn memory) i p ls) (heads : (j : ℕ) → j < 6 → Heads m i p ls j)
-    (core : Core s (rowsOf s (withNode s memory i l)) (put (m .node) i (placed (m .node i) fr p ls)))
+module _ (s : Settings) (table memory : List ℕ) (M : ℕ → Node) (wk : Working s table memory M) (i : ℕ) (h : i < 6) (l : List ℕ) (long : length l ≡ nodeSize s)
+    (fr : List ℕ) (p : ℕ) (hi : p < 77) (ls : List Letter) (fit : Fit table i p ls)
+    (core : Core s (rowsOf s (withNode s memory i l)) (put M i (placed (M i) fr p ls)))
     (here : (q : ℕ) → q < 64 → p ≡ 13 + q → getD (rowsOf s (withNode s memory i l) i (13 + q)) gapWord 0 ≡ gapFlag (firsts ls))
     (others : (q : ℕ) → q < 64 → (p ≡ 13 + q → ⊥) → rowsOf s (withNode s memory i l) i (13 + q) ≡ rowsOf s memory i (13 + q)) where
-  abbrev N′ : ℕ → Node
-  N′ = put (m .node) i (placed (m .node i) fr p ls)
-
-  row-away : (k r : ℕ) → (k ≡ i → ⊥) → rowsOf s (withNode s memory i l) k r ≡ rowsOf s memory k r
-  row-away k r n = ap (λ (Q : ℕ → ℕ → List ℕ). Q k r) (rows-with s memory (rep .size) i h l long) ∙ ap (λ (g : ℕ → List ℕ). g r) (put-other (rowsOf s memory) i (rows s l) k n)
-
-  flags : Flagged (rowsOf s (withNode s memory i l)) N′
-  flags =
-      flags-put (m .node) i fr p ls (rowsOf s memory) (rowsOf s (withNode s memory i l)) (rep .shows .flags) here
-      (λ k q a b n. same? k i
-      (λ e t. ap (λ (x : ℕ). rowsOf s (withNode s memory i l) x (13 + q)) e ∙ others q b (n e) ∙ ap (λ (x : ℕ). rowsOf s memory x (13 + q)) (sym e))
-      (λ e t. row-away k (13 + q) e))
-
-  word : (k : ℕ) → k < 536 → getD (withNode s memory i l) k 0 ≡ getD memory k 0
-  word = with-word s memory (rep .size) i h l long
-
-  same-table : tableIn (withNode s memory i l) ≡ tableIn memory
-  same-table = with-table s memory (rep .size) i h l long
-
-  hand : (j : ℕ) → put (m .node) i (placed (m .node i) fr p ls) j .letters 0 ≡ m .node j .letters 0
-  hand j = at-other (m .node) i fr p ls j 0 (λ u v. omega arith)
-
-  pub represents-put : RepresentsAt s (withNode s memory i l) (withNodes m (put (m .node) i (placed (m .node i) fr p ls)))
-  represents-put =
+  pub working-put : Working s table (withNode s memory i l) (put M i (placed (M i) fr p ls))
+  working-put =
       record {
-        size = with-long s memory (rep .size) i h l long ∙ rep .size;
-        table = rw same-table (rep .table);
+        size = with-long s memory (wk .size) i h l long ∙ wk .size;
         core = core;
-        shows = record {
-          turn = word 5 (omega arith) ∙ rep .shows .turn;
-          stage = λ j g. word (6 + j * 3) (omega arith) ∙ rep .shows .stage j g;
-          other = λ j g. word (6 + j * 3 + 1) (omega arith) ∙ rep .shows .other j g;
-          hand = λ j g. word (6 + j * 3 + 2) (omega arith) ∙ rep .shows .hand j g ∙ ap (λ (x : List Letter). getD (firsts x) 0 0) (sym (hand j));
-          flags = flags;
-        };
-        formed = rw same-table (formed-put m i fr p lo ls (tableIn memory) (rep .formed) hi fit heads);
+        order = order-put M i fr p ls table (wk .order) hi fit;
+        flags = flags-put M i fr p ls (rowsOf s memory) (rowsOf s (withNode s memory i l)) (wk .flags) here
+            (λ k q a b n. same? k i
+            (λ e t. ap (λ (x : ℕ). rowsOf s (withNode s memory i l) x (13 + q)) e ∙ others q b (n e) ∙ ap (λ (x : ℕ). rowsOf s memory x (13 + q)) (sym e))
+            (λ e t. rows-away s memory (wk .size) i h l long k (13 + q) e));
       }
+
+-- ---- A CALL BEGINS with the memory and its nodes, and ends with a machine whose positions are those that it had
+pub begins-working : (s : Settings) (memory : List ℕ) (m : Machine) → RepresentsAt s memory m → Working s (tableIn memory) memory (m .node)
+begins-working s memory m rep = record { size = rep .size; core = rep .core; order = rep .formed .order; flags = rep .shows .flags }
+
+pub ends-working : (s : Settings) (memory : List ℕ) (m : Machine) → RepresentsAt s memory m → (i : ℕ) → i < 6 → (l : List ℕ) → length l ≡ nodeSize s
+    → (fr : List ℕ) (p : ℕ) → 1 ≤ p → (ls : List Letter) → ((j : ℕ) → j < 6 → Heads m i p ls j)
+    → Working s (tableIn memory) (withNode s memory i l) (put (m .node) i (placed (m .node i) fr p ls))
+    → RepresentsAt s (withNode s memory i l) (withNodes m (put (m .node) i (placed (m .node i) fr p ls)))
+ends-working s memory m rep i h l long fr p lo ls heads wk =
+    let word : (k : ℕ) → k < 536 → getD (withNode s memory i l) k 0 ≡ getD memory k 0 = with-word s memory (rep .size) i h l long in
+    let e : tableIn (withNode s memory i l) ≡ tableIn memory = with-table s memory (rep .size) i h l long in
+    let hand : (j : ℕ) → put (m .node) i (placed (m .node i) fr p ls) j .letters 0 ≡ m .node j .letters 0 = λ j. at-other (m .node) i fr p ls j 0 (λ u v. omega arith) in
+    record {
+      size = wk .size;
+      table = rw e (rep .table);
+      core = wk .core;
+      shows = record {
+        turn = word 5 (omega arith) ∙ rep .shows .turn;
+        stage = λ j g. word (6 + j * 3) (omega arith) ∙ rep .shows .stage j g;
+        other = λ j g. word (6 + j * 3 + 1) (omega arith) ∙ rep .shows .other j g;
+        hand = λ j g. word (6 + j * 3 + 2) (omega arith) ∙ rep .shows .hand j g ∙ ap (λ (x : List Letter). getD (firsts x) 0 0) (sym (hand j));
+        flags = wk .flags;
+      };
+      formed = rw e (record { turn = rep .formed .turn; order = wk .order; positions = λ j g. position-put m i fr p lo ls j (rep .formed .positions j g) (heads j g) });
+    }

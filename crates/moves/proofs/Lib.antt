@@ -8,4 +8,5 @@ pub mod Words
 pub mod Trace
 pub mod Calls
 pub mod Formed
+pub mod Works
 pub mod Kept

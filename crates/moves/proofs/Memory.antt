@@ -1,5 +1,5 @@
 -- A node's stretch put anew in a memory: its rows, its words before the stretches, its length. Assumes nothing.
---     rows-with     the rows of that node are the new stretch's, and no other row changes
+--     rows-with     the rows of that node are the new stretch's, and no other row changes (rows-away)
 --     row-with     a stretch that differs in one row
 --     node-with, with-with     what was put is there, and may be put anew
 --     with-long, with-word, with-settings, with-table     length, and words before the stretches, stay
@@ -64,6 +64,9 @@ module _ (s : Settings) (memory : List ℕ) (size : length memory ≡ memorySize
   pub row-with : (r : ℕ) (w : List ℕ) → But (width s) (node s memory j) r l w → rowsOf s (withNode s memory j l) ≡ putRow (rowsOf s memory) j r w
   unfolding putRow
   row-with r w b = rows-with ∙ ap (put (rowsOf s memory) j) (b .rows)
+
+  pub rows-away : (k r : ℕ) → (k ≡ j → ⊥) → rowsOf s (withNode s memory j l) k r ≡ rowsOf s memory k r
+  rows-away k r n = ap (λ (Q : ℕ → ℕ → List ℕ). Q k r) rows-with ∙ ap (λ (g : ℕ → List ℕ). g r) (put-other (rowsOf s memory) j (rows s l) k n)
 
   pub node-with : node s (withNode s memory j l) j ≡ l
   node-with = with-node j ∙ put-same (node s memory) j l

@@ -248,6 +248,11 @@ module _ (s : Settings) (memory : List ℕ) (size : length memory ≡ memorySize
     appended-row x =
         row-with s memory size j j6 (appended k m q x) (length-appended k m q x ∙ stretch j j6 .long) r (appended k (R j r) 0 x) (but-appended (width s) m r k room (but-none (width s) m r) x)
 
+    pub dropped-row : rowsOf s (withNode s memory (seat i p) (dropped (kind s p) (node s memory (seat i p)) (wordRows.start (width s) (line i p))))
+        ≡ putRow (rowsOf s memory) (seat i p) (line i p) (dropped (kind s p) (rowsOf s memory (seat i p) (line i p)) 0)
+    dropped-row =
+        row-with s memory size j j6 (dropped k m q) (length-dropped k m q ∙ stretch j j6 .long) r (dropped k (R j r) 0) (but-dropped (width s) m r k room (but-none (width s) m r))
+
     pub append-words : (L : Letter) → N i .letters 77 ≡ L ∷ [] → length (N i .letters p) < kind s p .slots
         → Core s (rowsOf s (withNode s memory (seat i p) (appended (kind s p) (node s memory (seat i p)) (wordRows.start (width s) (line i p)) (first L)))) (put N i (moved (N i) p (N i .letters p ++ L ∷ []) []))
     append-words L one less =
@@ -260,9 +265,7 @@ module _ (s : Settings) (memory : List ℕ) (size : length memory ≡ memorySize
     pub drop-words : (L : Letter) (ls hs : List Letter) → N i .letters p ≡ L ∷ ls → N i .letters 77 ≡ hs
         → Core s (rowsOf s (withNode s memory (seat i p) (dropped (kind s p) (node s memory (seat i p)) (wordRows.start (width s) (line i p))))) (put N i (moved (N i) p ls (L ∷ hs)))
     drop-words L ls hs e e′ =
-        let d : rowsOf s (withNode s memory j (dropped k m q)) ≡ putRow R j r (dropped k (R j r) 0) =
-        row-with s memory size j j6 (dropped k m q) (length-dropped k m q ∙ stretch j j6 .long) r (dropped k (R j r) 0) (but-dropped (width s) m r k room (but-none (width s) m r)) in
-        subst (λ (Q : ℕ → ℕ → List ℕ). Core s Q (put N i (moved (N i) p ls (L ∷ hs)))) (sym d) (drop-keeps s R N core i p h lo hi L ls hs e e′)
+        subst (λ (Q : ℕ → ℕ → List ℕ). Core s Q (put N i (moved (N i) p ls (L ∷ hs)))) (sym dropped-row) (drop-keeps s R N core i p h lo hi L ls hs e e′)
 
   -- ---- send queue k of node i
   module _ (i k : ℕ) (h : i < 6) (g : k < 6) where
