@@ -2,17 +2,17 @@
 --     send-task-works, send-gap-works, send-queue-works, receive-works, acknowledge-works, hand-over-works
 use mathlib.Core.Path.{_≡_, refl, sym, ap, _∙_, subst}
 use mathlib.Core.Bool.{true}
-use mathlib.Core.List.{List, [], _∷_, _++_, map}
+use mathlib.Core.List.{List, [], _∷_, _++_}
 use Prim.Native.Nat.{ℕ, zero, suc, _+_, _-_, _*_, _≤_, _<_}
 use native.Mathlib.Nat.{zero-mul}
 use native.Mathlib.Omega.{arith}
-use lib.ListN.{length, getD, set, take, drop, length-append, length-set}
-use lib.Seq.{length-take-le, getD-set-same, getD-set-other}
+use lib.ListN.{length, getD, take, drop}
+use lib.Seq.{length-take-le}
 use Rattle.words.proofs.Count.{occurs-split, down-range}
 use Rattle.words.proofs.Lists.{put, put-same, put-other, put-put, same?}
 use Rattle.settings.specs.declared.Settings.{Settings}
 use Rattle.settings.specs.Range.{InRange}
-use Rattle.layout.specs.Places.{turnAt, nodeSize, memorySize, node, withNode, sendAt, ackAt, taskAt, firstFreeAt}
+use Rattle.layout.specs.Places.{nodeSize, memorySize, node, withNode, sendAt, ackAt, taskAt, firstFreeAt}
 use Rattle.blocks.specs.Chain.{needs}
 use Rattle.blocks.specs.Moves.{taken, givenBack}
 use Rattle.blocks.proofs.Moves.{length-taken, length-given}
@@ -27,13 +27,12 @@ use Rattle.gaps.specs.Close.{taskAppended}
 use Rattle.gaps.proofs.Closed.{append-room, append-gap}
 use Rattle.taking.specs.Take.{takenOut}
 use Rattle.taking.proofs.Taken.{taken-task}
-use Rattle.sound.specs.Reading.{settingsIn, tableIn}
 use Rattle.sound.specs.Letters.{fromTo, rightPlace}
 use Rattle.machine.proofs.Places.{seat-send, line-send, kind-send, seat-ack, line-ack, kind-ack}
 use Rattle.moves.proofs.Memory.{with-long, with-node, rows-with, rows-away}
 use Rattle.layout.proofs.NodeRows.{by-send, by-ack, start-send, start-ack}
 use Rattle.sound.specs.Queues.{taskOf}
-use Rattle.machine.specs.Machine.{Letter, gap, first, firsts, Live, wordsOf, Node, Machine, All}
+use Rattle.machine.specs.Machine.{Letter, gap, first, firsts, Live, Node, All}
 use Rattle.machine.specs.Core.{rowsOf, Core}
 use Rattle.machine.specs.Represents.{Right, InOrder, Flagged}
 use Rattle.blocks.proofs.Rows.{rows}
@@ -46,7 +45,7 @@ use Rattle.moves.proofs.Items.{firsts-live, all-live, firsts-without, a
 use Rattle.moves.proofs.Queues.{length-task-appended, length-taken-out}
 use Rattle.moves.proofs.Calls.{send-task-row, send-task-other, send-task-words, send-gap-words, send-queue-words, send-queue-other, receive-words, receive-row, acknowledge-words, hand-over}
 use Rattle.moves.proofs.Words.{give-row, appended-row, dropped-row, ack-drop}
-use Rattle.moves.proofs.Formed.{Fit, at-other, order-put, flags-put, working-put}
+use Rattle.moves.proofs.Formed.{Fit, order-put, flags-put, working-put}
 use Rattle.moves.specs.Working.{Working}
 
 -- a letter needs a block at least
