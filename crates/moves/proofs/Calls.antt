@@ -3,6 +3,7 @@
 --     send-task-words, send-gap-words, send-queue-words     and appended: a send
 --     receive-words     a letter taken out of a task queue and its chain given back: a receive
 --     acknowledge-words     an acknowledge item dropped and its chain given back on its own node
+--     hold-words, resume-words, resume-gap-words     a copy held in the hand, and from the hand to a task queue
 --     hand-over     a send item's block appended to an acknowledge queue, and the item dropped
 use mathlib.Core.Path.{_≡_, refl, sym, ap, ap₂, _∙_, subst, fun-ext}
 use mathlib.Core.List.{List, [], _∷_, _++_}
@@ -34,6 +35,7 @@ use Rattle.layout.proofs.NodeRows.{start-send}
 use Rattle.machine.proofs.Gives.{gives-stretch, gives-list}
 use Rattle.moves.specs.Moves.{putRow, moved, freed, placed, liveOnes, lettersWithout}
 use Rattle.moves.proofs.Rows.{moved-transit, moved-other, freed-transit, freed-other, row-same, row-other}
+use Rattle.moves.proofs.Core.{hold-keeps, resume-keeps}
 use Rattle.moves.proofs.Queues.{length-taken-out}
 use Rattle.moves.proofs.Memory.{node-with, with-with, with-long, with-node, rows-with}
 use Rattle.moves.proofs.Words.{take-row, take-words, write-row, write-words, give-words, give-row, appended-row, send-append, send-drop, ack-append, ack-drop, task-append-row, task-take-row, task-append-words, task-gap-words, task-take-words}
@@ -154,6 +156,14 @@ module _ (s : Settings) (memory : List ℕ) (size : length memory ≡ memorySize
     memory₃ g =
         ap₂ (λ (k : List ℕ) (b : ℕ). withNode s m₂ i (g k b)) (node-with s memory size i h l₂ long₂) first-is
         ∙ with-with s memory size i h l₂ long₂ (g l₂ f)
+
+    -- ---- A COPY HELD: the letter written is held in the hand, as at stage 2
+    pub hold-words : N i .letters 0 ≡ []
+        → Core s (rowsOf s (withNode s memory i (written s (taken s (node s memory i) (needs s (length ws))) (getD (node s memory i) firstFreeAt 0) ws)))
+        (put N i (placed (N i) (drop (needs s (length ws)) (N i .free)) 0 (record { chain = take (needs s (length ws)) (N i .free); words = ws } ∷ [])))
+    hold-words empty =
+        let z : _≡_ {A = ℕ} 0 77 → ⊥ = λ e. omega arith in
+        along s refl (nodes₃ 0 (L ∷ []) z) (hold-keeps s (rowsOf s m₂) (put N i X₂) grab-words i h L (letters₂ 0 z ∙ empty) one₂)
 
     -- ---- A SEND to a task queue
     module _ (q : ℕ) (g : q < 64) (t : TaskRing s (rowsOf s memory i (13 + q)) 0 (firsts (N i .letters (13 + q)))) (begins : first L ≡ 0 → ⊥) where
@@ -322,3 +332,49 @@ module _ (s : Settings) (memory : List ℕ) (size : length memory ≡ memorySize
           fun-ext (λ k. same? k i
           (λ e t. same? k j (λ e′ t′. absurd (n (sym e′ ∙ e))) (λ e′ t′. rw (t, t′)))
           (λ e t. same? k j (λ e′ t′. rw (t, t′)) (λ e′ t′. rw (t, t′))))
+
+  -- ---- RESUMED: the letter in the hand goes to a task queue
+  module _ (i q : ℕ) (h : i < 6) (g : q < 64) (none : N i .letters 77 ≡ []) (L : Letter) (one : N i .letters 0 ≡ L ∷ []) (begins : first L ≡ 0 → ⊥)
+      (t : TaskRing s (rowsOf s memory i (13 + q)) 0 (firsts (N i .letters (13 + q)))) where
+    abbrev Z : Node
+    Z = moved (N i) 0 [] (L ∷ [])
+
+    zero-77 : _≡_ {A = ℕ} 0 77 → ⊥
+    zero-77 e = omega arith
+
+    q-77 : 13 + q ≡ 77 → ⊥
+    q-77 e = omega arith
+
+    core-z : Core s (rowsOf s memory) (put N i Z)
+    core-z = resume-keeps s (rowsOf s memory) N core i h L one none
+
+    one-z : put N i Z i .letters 77 ≡ L ∷ []
+    one-z = ap (λ (Y : Node). Y .letters 77) (put-same N i Z) ∙ moved-transit (N i) 0 [] (L ∷ []) zero-77
+
+    same-z : put N i Z i .letters (13 + q) ≡ N i .letters (13 + q)
+    same-z = ap (λ (Y : Node). Y .letters (13 + q)) (put-same N i Z) ∙ moved-other (N i) 0 [] (L ∷ []) zero-77 (13 + q) (λ e. omega arith) q-77
+
+    ring-z : TaskRing s (rowsOf s memory i (13 + q)) 0 (firsts (put N i Z i .letters (13 + q)))
+    ring-z = subst (λ (k : List Letter). TaskRing s (rowsOf s memory i (13 + q)) 0 (firsts k)) (sym same-z) t
+
+    nodes-z : (ks : List Letter) → put (put N i Z) i (moved (put N i Z i) (13 + q) ks []) ≡ put N i (placed (placed (N i) (N i .free) 0 []) (N i .free) (13 + q) ks)
+    nodes-z ks =
+        put-put N i Z (moved (put N i Z i) (13 + q) ks [])
+        ∙ ap (put N i) (ap (λ (Y : Node). moved Y (13 + q) ks []) (put-same N i Z) ∙ trace-move (N i) 0 [] (L ∷ []) zero-77 none (13 + q) ks q-77)
+
+    pub resume-words : length (N i .letters (13 + q)) < s .t
+        → Core s (rowsOf s (withNode s memory i (taskAppended s (node s memory i) (taskAt s q) (first L))))
+        (put N i (placed (placed (N i) (N i .free) 0 []) (N i .free) (13 + q) (N i .letters (13 + q) ++ L ∷ [])))
+    resume-words less =
+        along s refl
+        (nodes-z (put N i Z i .letters (13 + q) ++ L ∷ []) ∙ ap (λ (k : List Letter). put N i (placed (placed (N i) (N i .free) 0 []) (N i .free) (13 + q) (k ++ L ∷ []))) same-z)
+        (task-append-words s memory size (put N i Z) core-z i q h g ring-z L one-z begins (subst (λ (k : List Letter). length k < s .t) (sym same-z) less))
+
+    pub resume-gap-words : length (N i .letters (13 + q)) ≡ s .t → gapFlag (firsts (N i .letters (13 + q))) ≡ 1
+        → Core s (rowsOf s (withNode s memory i (taskAppended s (node s memory i) (taskAt s q) (first L))))
+        (put N i (placed (placed (N i) (N i .free) 0 []) (N i .free) (13 + q) (liveOnes (N i .letters (13 + q)) ++ L ∷ [])))
+    resume-gap-words full gaps =
+        along s refl
+        (nodes-z (liveOnes (put N i Z i .letters (13 + q)) ++ L ∷ []) ∙ ap (λ (k : List Letter). put N i (placed (placed (N i) (N i .free) 0 []) (N i .free) (13 + q) (liveOnes k ++ L ∷ []))) same-z)
+        (task-gap-words s memory size (put N i Z) core-z i q h g ring-z L one-z begins
+        (subst (λ (k : List Letter). length k ≡ s .t) (sym same-z) full) (subst (λ (k : List Letter). gapFlag (firsts k) ≡ 1) (sym same-z) gaps))

@@ -1,10 +1,10 @@
 -- What keeps the core: a queue's row put anew with letters to or from the transit place; blocks of the free list and of the transit place anew; letters to or from the hand. Assumes nothing.
 --     queue-put, word-put     every move of a queue, of any kind and on any node
 --     chain-change     every move of blocks
---     pass-keeps     between the hand and the transit place: no row shows it
+--     pass-keeps, hold-keeps, resume-keeps     between the hand and the transit place: no row shows it
 --     head-put     the room count
 use mathlib.Core.Path.{_≡_, refl, sym, ap, _∙_}
-use mathlib.Core.List.{List, []}
+use mathlib.Core.List.{List, [], _∷_}
 use Prim.Native.Nat.{ℕ, _+_, _-_, _≤_, _<_}
 use native.Mathlib.Omega.{arith}
 use lib.ListN.{length, getD}
@@ -247,3 +247,15 @@ module _ (s : Settings) (R : ℕ → ℕ → List ℕ) (N : ℕ → Node) (core 
         (λ b. refl) in
         let e : put N i (freed (N i) (N i .free) (N i .letters 77)) ≡ N = ap (put N i) (freed-none (N i)) ∙ put-none N i in
         rw e at c
+
+-- ---- the letter on its way is held in the hand; and the letter in the hand goes on its way
+module _ (s : Settings) (R : ℕ → ℕ → List ℕ) (N : ℕ → Node) (core : Core s R N) (i : ℕ) (h : i < 6) (L : Letter) where
+  pub hold-keeps : N i .letters 0 ≡ [] → N i .letters 77 ≡ L ∷ [] → Core s R (put N i (moved (N i) 0 (L ∷ []) []))
+  hold-keeps none one =
+      let a : All (Held s (R i)) (L ∷ []) = rw one at (core .letters i 77 h (omega arith)) in
+      pass-keeps s R N core i h (L ∷ []) [] a tt (λ b. omega (arith, ap (many b) one, ap (many b) none))
+
+  pub resume-keeps : N i .letters 0 ≡ L ∷ [] → N i .letters 77 ≡ [] → Core s R (put N i (moved (N i) 0 [] (L ∷ [])))
+  resume-keeps one none =
+      let a : All (Held s (R i)) (L ∷ []) = rw one at (core .letters i 0 h (omega arith)) in
+      pass-keeps s R N core i h [] (L ∷ []) tt a (λ b. omega (arith, ap (many b) one, ap (many b) none))
