@@ -41,7 +41,7 @@ use Rattle.machine.specs.Machine.{Letter, gap, first, firsts, Live, word
 use Rattle.machine.specs.Spelled.{letterFrom, shown, nodeFrom, machineOf}
 use Rattle.machine.specs.Core.{rowsOf, seat, line, kind, Held, Core}
 use Rattle.machine.specs.Represents.{Right, RightPosition, WellFormed, Shows, RepresentsAt, Represents}
-use Rattle.machine.proofs.Letters.{length-firsts}
+use Rattle.machine.proofs.Letters.{length-firsts, alive, first-in, Among}
 use Rattle.machine.proofs.Places.{at-place, seat-send, line-send, seat-ack, line-ack, seat-task, line-task, kind-send, kind-ack, kind-task, row-ring, row-word, shown-hand, shown-transit, shown-send, shown-ack, shown-task, begun-low, begun-task}
 use Rattle.machine.proofs.Facts.{Facts, facts-sound}
 use Rattle.machine.proofs.Counts.{sum-same, empty, lettersAt, count-visits}
@@ -51,26 +51,6 @@ in-all : (p : ℕ → Bool) (l : List ℕ) → ((x : ℕ) → 1 ≤ occurs x l �
 unfolding all
 in-all p [] f = refl
 in-all p (y ∷ l) f = and-join (p y) (all p l) (f y (omega (arith, hit-self y))) (in-all p l (λ x o. f x (omega arith)))
-
--- a letter whose first block is no 0 has blocks
-alive : (L : Letter) → (first L ≡ 0 → ⊥) → Live L
-alive L n = go (L .chain) n
-  where
-    go : (c : List ℕ) → (getD c 0 0 ≡ 0 → ⊥) → 1 ≤ length c
-    go [] k = absurd (k refl)
-    go (x ∷ c) k = omega arith
-
--- the first block of a live letter is one of its blocks
-first-in : (L : Letter) → Live L → 1 ≤ occurs (first L) (L .chain)
-first-in L v = go (L .chain) v
-  where
-    go : (c : List ℕ) → 1 ≤ length c → 1 ≤ occurs (getD c 0 0) c
-    go [] k = absurd (omega arith)
-    go (x ∷ c) k = omega (arith, hit-self x)
-
--- the letters' blocks are of 1 to m
-abbrev Among : ℕ → List Letter → Type 0
-Among m ls = (b : ℕ) → many b ls ≤ occurs b (downFrom m)
 
 -- ---- a node's words
 module _ (s : Settings) (l : List ℕ) (st : Stretch s l) where

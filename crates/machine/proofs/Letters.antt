@@ -4,7 +4,8 @@ use mathlib.Core.List.{List, [], _∷_, _++_, map}
 use Prim.Native.Nat.{ℕ, zero, suc, _+_, _≤_, _<_}
 use native.Mathlib.Omega.{arith}
 use lib.ListN.{length, getD, take}
-use Rattle.words.specs.Count.{occurs}
+use Rattle.words.specs.Count.{hit, occurs, downFrom}
+use Rattle.words.proofs.Count.{hit-self}
 use Rattle.blocks.proofs.Chains.{Same, leads-same, text-same}
 use Rattle.settings.specs.declared.Settings.{Settings}
 use Rattle.machine.specs.Machine.{Letter, gap, first, firsts, Live, Node, All, many}
@@ -34,6 +35,36 @@ firsts-append (x ∷ xs) ys = ap (λ (l : List ℕ). first x ∷ l) (firsts-appe
 pub length-firsts : (xs : List Letter) → length (firsts xs) ≡ length xs
 length-firsts [] = refl
 length-firsts (x ∷ xs) = ap suc (length-firsts xs)
+
+-- ---- one of them
+pub all-at : (P : Letter → Type 0) (n : ℕ) (ls : List Letter) → n < length ls → All P ls → P (getD ls n gap)
+all-at P n [] h a = absurd (omega arith)
+all-at P zero (L ∷ ls) h a = a .0
+all-at P (suc n) (L ∷ ls) h a = all-at P n ls (omega arith) (a .1)
+
+pub many-at : (b n : ℕ) (ls : List Letter) → n < length ls → occurs b (getD ls n gap .chain) ≤ many b ls
+many-at b n [] h = absurd (omega arith)
+many-at b zero (L ∷ ls) h = omega arith
+many-at b (suc n) (L ∷ ls) h = omega (arith, many-at b n ls (omega arith))
+
+-- a letter whose first block is no 0 has blocks, and the first is one of them
+pub alive : (L : Letter) → (first L ≡ 0 → ⊥) → Live L
+alive L n = go (L .chain) n
+  where
+    go : (c : List ℕ) → (getD c 0 0 ≡ 0 → ⊥) → 1 ≤ length c
+    go [] k = absurd (k refl)
+    go (x ∷ c) k = omega arith
+
+pub first-in : (L : Letter) → Live L → 1 ≤ occurs (first L) (L .chain)
+first-in L v = go (L .chain) v
+  where
+    go : (c : List ℕ) → 1 ≤ length c → 1 ≤ occurs (getD c 0 0) c
+    go [] k = absurd (omega arith)
+    go (x ∷ c) k = omega (arith, hit-self x)
+
+-- the letters' blocks are of 1 to m
+abbrev pub Among : ℕ → List Letter → Type 0
+Among m ls = (b : ℕ) → many b ls ≤ occurs b (downFrom m)
 
 -- THE FRAME: letters whose blocks' rows are the same are held as before
 module _ (s : Settings) (R R′ : ℕ → List ℕ) where

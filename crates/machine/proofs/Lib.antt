@@ -6,3 +6,4 @@ pub mod Counts
 pub mod Sound
 pub mod Back
 pub mod Fresh
+pub mod Gives

@@ -1,6 +1,6 @@
 -- The places of a node: which row shows which, of what kind, and what the words show there. Assumes nothing.
 --     at-place     what holds of each send, acknowledge and task queue holds of every place 1 to 76
---     seat-.., line-.., kind-..     by kind of place; ring-row, row-ring     a queue in words is a queue in its row, and back
+--     seat-.., line-.., kind-..     by kind of place; ring-row, row-words, row-ring     a queue in words is a queue in its row, and back
 --     shown-..     what the words show at each kind of place; begun-low, begun-task     against the blocks that begin letters
 use mathlib.Core.Path.{_≡_, refl, sym, ap, ap₂, _∙_, subst}
 use mathlib.Core.Bool.{Bool, true, false, cond, _&&_, _||_}
@@ -132,9 +132,12 @@ module _ (s : Settings) (l : List ℕ) (st : Stretch s l) (k : Kind) (r : ℕ) (
       ring-down (width s) l r k room (but-none (width s) l r) (contents k l a) row-size
       (rw at (ring-of k l a (shape-queue k l a p e)))
 
+  pub row-words : (xs : List ℕ) → Ring k (rows s l r) 0 xs → Ring k l a xs
+  row-words xs g = rw at at (ring-up (width s) l r k room (but-none (width s) l r) xs (rw (st .long) (row-fits s r in-r)) g)
+
   pub row-ring : (xs : List ℕ) → Ring k (rows s l r) 0 xs → (inShape k l a ≡ true) × (contents k l a ≡ xs)
   row-ring xs g =
-      let u : Ring k l a xs = rw at at (ring-up (width s) l r k room (but-none (width s) l r) xs (rw (st .long) (row-fits s r in-r)) g) in
+      let u = row-words xs g in
       (queue-shape k l a (ring-queue k l a u), ring-contents k l a u)
 
   pub row-word : (j : ℕ) → j < width s r → getD (rows s l r) j 0 ≡ getD l (a + j) 0

@@ -93,8 +93,3 @@ unfolding lettersWithout
 many-without b i [] h o = absurd (omega arith)
 many-without b zero (L ∷ ls) h o = omega (arith, many-after b ls (omega arith))
 many-without b (suc i) (L ∷ ls) h o = omega (arith, many-set b ls i (omega arith))
-
-pub all-at : (P : Letter → Type 0) (i : ℕ) (ls : List Letter) → i < length ls → All P ls → P (getD ls i gap)
-all-at P i [] h a = absurd (omega arith)
-all-at P zero (L ∷ ls) h a = a .0
-all-at P (suc i) (L ∷ ls) h a = all-at P i ls (omega arith) (a .1)

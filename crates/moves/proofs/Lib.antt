@@ -5,3 +5,5 @@ pub mod Items
 pub mod Queues
 pub mod Memory
 pub mod Words
+pub mod Trace
+pub mod Calls

@@ -1,6 +1,7 @@
 -- A node's stretch put anew in a memory: its rows, its words before the stretches, its length. Assumes nothing.
 --     rows-with     the rows of that node are the new stretch's, and no other row changes
 --     row-with     a stretch that differs in one row
+--     node-with, with-with     what was put is there, and may be put anew
 --     with-long, with-word, with-settings, with-table     length, and words before the stretches, stay
 use mathlib.Core.Path.{_≡_, refl, sym, ap, ap₂, _∙_, fun-ext}
 use mathlib.Core.List.{List}
@@ -11,7 +12,7 @@ use lib.Seq.{getD-take}
 use Rattle.words.specs.Words.{part, splice}
 use Rattle.words.specs.Rows.{start, row}
 use Rattle.words.proofs.Lists.{put, put-same, put-other, same?}
-use Rattle.words.proofs.Parts.{length-splice, take-splice, part-before}
+use Rattle.words.proofs.Parts.{length-splice, take-splice, splice-splice, part-before}
 use Rattle.words.proofs.Rows.{But, row-splice}
 use Rattle.settings.specs.declared.Settings.{Settings}
 use Rattle.settings.specs.Made.{settingsOf}
@@ -59,6 +60,12 @@ module _ (s : Settings) (memory : List ℕ) (size : length memory ≡ memorySize
   pub row-with : (r : ℕ) (w : List ℕ) → But (width s) (node s memory j) r l w → rowsOf s (withNode s memory j l) ≡ putRow (rowsOf s memory) j r w
   unfolding putRow
   row-with r w b = rows-with ∙ ap (put (rowsOf s memory) j) (b .rows)
+
+  pub node-with : node s (withNode s memory j l) j ≡ l
+  node-with = with-node j ∙ put-same (node s memory) j l
+
+  pub with-with : (l′ : List ℕ) → withNode s (withNode s memory j l) j l′ ≡ withNode s memory j l′
+  with-with l′ = splice-splice memory (nodeAt s j) (nodeEnd s j) (omega arith) inside l fits l′
 
   -- ---- what stays
   pub with-long : length (withNode s memory j l) ≡ length memory

@@ -25,12 +25,12 @@ use Rattle.taking.specs.Take.{cleared, firstOut, out, flagged, takenOut}
 use Rattle.taking.proofs.Taken.{taken-task}
 use Rattle.machine.specs.Machine.{Letter, gap, first, firsts, Live, Node, All, many}
 use Rattle.machine.specs.Core.{seat, line, kind, Held, Core}
-use Rattle.machine.proofs.Letters.{all-append, many-append, firsts-append, length-firsts}
+use Rattle.machine.proofs.Letters.{all-at, all-append, many-append, firsts-append, length-firsts}
 use Rattle.machine.proofs.Places.{seat-task, line-task, kind-task}
 use Rattle.machine.proofs.Counts.{gap-held}
 use Rattle.moves.specs.Moves.{putRow, moved, liveOnes, lettersWithout}
 use Rattle.moves.proofs.Core.{many-most, queue-put, word-put}
-use Rattle.moves.proofs.Items.{firsts-live, all-live, many-live, firsts-without, all-without, many-without, all-at}
+use Rattle.moves.proofs.Items.{firsts-live, all-live, many-live, firsts-without, all-without, many-without}
 
 -- ---- any queue
 module _ (s : Settings) (R : ℕ → ℕ → List ℕ) (N : ℕ → Node) (core : Core s R N) (i p : ℕ) (h : i < 6) (lo : 1 ≤ p) (hi : p < 77) where
@@ -96,9 +96,9 @@ length-cleared k q (suc n) l =
     both (λ (m : List ℕ). length m ≡ length l) (eqb (itemAt k l q 0) 0) (cleared k q n (dropped k l q)) l
     (length-cleared k q n (dropped k l q) ∙ length-dropped k l q) refl
 
-pub length-taken : (s : Settings) (l : List ℕ) (q i : ℕ) → length (takenOut s l q i) ≡ length l
+pub length-taken-out : (s : Settings) (l : List ℕ) (q i : ℕ) → length (takenOut s l q i) ≡ length l
 unfolding flagged out firstOut
-length-taken s l q i =
+length-taken-out s l q i =
     let k : Kind = taskKind s in
     let d : List ℕ = dropped k l q in
     let c : List ℕ = cleared k q (items k d q) d in
@@ -176,7 +176,7 @@ module _ (s : Settings) (R : ℕ → ℕ → List ℕ) (N : ℕ → Node) (core 
           (put N i (moved (N i) (13 + q) (lettersWithout n (N i .letters (13 + q))) (getD (N i .letters (13 + q)) n gap ∷ [])))
       task-take =
           let a = core .letters i (13 + q) h (omega arith) in
-          task-put (takenOut s v 0 n) (lettersWithout n ls) (getD ls n gap ∷ []) (length-taken s v 0 n) (task-take-flag .ring)
+          task-put (takenOut s v 0 n) (lettersWithout n ls) (getD ls n gap ∷ []) (length-taken-out s v 0 n) (task-take-flag .ring)
           (all-without (Held s (R i)) n ls (gap-held s (core .range) (R i)) a)
           (all-at (Held s (R i)) n ls is a, tt)
           (λ b. omega (arith, many-without b n ls is no-zero, ap (many b) none))

@@ -1,5 +1,5 @@
 -- The moves in words: what each operation on a node's stretch makes of a memory keeps the core. Assumes nothing.
---     take-words, write-words, give-words     blocks taken, a letter's words written, its chain given back
+--     take-words, write-words, give-words     blocks taken, a letter's words written, its chain given back; take-row, write-row, give-row     no queue's row changes
 --     append-words, full-words, drop-words     any queue; send-.., ack-..     by kind
 --     task-append-words, task-gap-words, task-full-words, task-take-words, task-empty-words     a task queue
 --     room-words     the room count
@@ -12,7 +12,7 @@ use lib.Seq.{split-at, take-suc, length-take-le, getD-set-other}
 use Rattle.words.specs.Words.{more}
 use Rattle.words.specs.Rows as wordRows
 use Rattle.words.specs.Count.{hit, occurs, downFrom}
-use Rattle.words.proofs.Count.{hit-self, occurs-append, occurs-split, down-range, count-most}
+use Rattle.words.proofs.Count.{hit-self, occurs-append, occurs-split, down-range}
 use Rattle.words.proofs.Lists.{put, put-same}
 use Rattle.words.proofs.Rows.{But, but-none, but-get, but-set}
 use Rattle.settings.specs.declared.Settings.{Settings}
@@ -21,16 +21,15 @@ use Rattle.layout.specs.Places.{nodeSize, memorySize, node, withNode, sendAt, a
 use Rattle.layout.specs.Rows.{width}
 use Rattle.layout.specs.Asked.{Stretch}
 use Rattle.layout.proofs.NodeRows.{width-head, start-send, start-ack, start-task}
-use Rattle.blocks.specs.Chain.{needs, free, text}
+use Rattle.blocks.specs.Chain.{needs, text}
 use Rattle.blocks.specs.Moves.{taken, givenBack}
 use Rattle.blocks.proofs.Chains.{Leads, textIn, firstIn}
-use Rattle.blocks.proofs.Rows.{rows, free-is, text-rows}
-use Rattle.blocks.proofs.Laws.{takenRows, givenRows}
+use Rattle.blocks.proofs.Rows.{rows, text-rows}
+use Rattle.blocks.proofs.Laws.{takenRows, givenRows, taken-other, given-other}
 use Rattle.blocks.proofs.Moves.{length-taken, length-given, rows-taken, rows-given}
 use Rattle.letters.specs.Letter.{laid, written}
 use Rattle.letters.proofs.Rows.{length-laid, rows-written}
-use Rattle.letters.proofs.Texts.{fill}
-use Rattle.letters.proofs.Copies.{node-stretch}
+use Rattle.letters.proofs.Texts.{fill, fill-other}
 use Rattle.queues.specs.declared.Kind.{Kind}
 use Rattle.queues.specs.Queue.{sendKind, ackKind, taskKind}
 use Rattle.queues.specs.Moves.{appended, dropped, counted}
@@ -45,6 +44,7 @@ use Rattle.taking.proofs.InRow.{but-taken}
 use Rattle.machine.specs.Machine.{Letter, gap, first, firsts, Node, All, many}
 use Rattle.machine.specs.Core.{rowsOf, seat, line, kind, Held, Core}
 use Rattle.machine.proofs.Places.{at-place, seat-in, line-in, seat-send, line-send, kind-send, seat-ack, line-ack, kind-ack, line-task, kind-task}
+use Rattle.machine.proofs.Gives.{gives-stretch, gives-list}
 use Rattle.moves.specs.Moves.{putRow, moved, freed, liveOnes, lettersWithout}
 use Rattle.moves.proofs.Core.{free-most, many-most, head-put}
 use Rattle.moves.proofs.Chains.{take-keeps, write-keeps, give-keeps, held-one, in-chain}
@@ -72,7 +72,7 @@ module _ (s : Settings) (memory : List ℕ) (size : length memory ≡ memorySize
   R = rowsOf s memory
 
   stretch : (i : ℕ) → i < 6 → Stretch s (node s memory i)
-  stretch i h = node-stretch s memory (record { range = core .range; long = size }) i h
+  stretch = gives-stretch s memory size N core
 
   -- ---- blocks
   module _ (i : ℕ) (h : i < 6) where
@@ -81,11 +81,6 @@ module _ (s : Settings) (memory : List ℕ) (size : length memory ≡ memorySize
 
     free-in : (x : ℕ) → 1 ≤ occurs x (N i .free) → (1 ≤ x) × (x ≤ s .m)
     free-in x o = down-range (s .m) x (omega (arith, free-most s R N core i x h))
-
-    -- the free list in words
-    pub free-words : free s (node s memory i) ≡ N i .free
-    free-words =
-        free-is s (core .range) l (N i .free) (λ x o. free-in x o .0) (count-most (s .m) (N i .free) (λ x. free-most s R N core i x h)) (core .free i h)
 
     module _ (none : N i .letters 77 ≡ []) (n len : ℕ) (some : 1 ≤ n) (has : n ≤ length (N i .free)) (need : n ≡ needs s len) where
       abbrev f : List ℕ
@@ -119,53 +114,88 @@ module _ (s : Settings) (memory : List ℕ) (size : length memory ≡ memorySize
       y-one = free-in y (subst (λ (k : List ℕ). 1 ≤ occurs y k) (sym cut) (omega (arith, occurs-append y xs (y ∷ ys), hit-self y))) .0
 
       taken-is : rows s (taken s l n) ≡ takenRows (s .b) (rows s l) y
-      taken-is = ap (λ (k : ℕ). rows s (taken s l k)) (sym long-xs) ∙ rows-taken s l (stretch i h) xs y ys y-one (free-words ∙ cut)
+      taken-is = ap (λ (k : ℕ). rows s (taken s l k)) (sym long-xs) ∙ rows-taken s l (stretch i h) xs y ys y-one (gives-list s memory size N core i h ∙ cut)
+
+      taken-memory : rowsOf s (withNode s memory i (taken s l n)) ≡ put R i (takenRows (s .b) (rows s l) y)
+      taken-memory = rows-with s memory size i h (taken s l n) (length-taken s l n ∙ stretch i h .long) ∙ ap (put R i) taken-is
+
+      -- no queue's row changes
+      pub take-row : (r : ℕ) → 1 ≤ r → r < 77 → rowsOf s (withNode s memory i (taken s (node s memory i) n)) i r ≡ rowsOf s memory i r
+      take-row r a b =
+          ap (λ (Q : ℕ → ℕ → List ℕ). Q i r) taken-memory
+          ∙ ap (λ (g : ℕ → List ℕ). g r) (put-same R i (takenRows (s .b) (rows s l) y))
+          ∙ taken-other (s .b) (rows s l) y r (λ e. omega arith) (λ e. omega (arith, y-one))
 
       -- TAKE
       pub take-words : Core s (rowsOf s (withNode s memory i (taken s (node s memory i) n)))
           (put N i (freed (N i) (drop n (N i .free)) (record { chain = take n (N i .free); words = take len (text s (node s memory i) (take n (N i .free))) } ∷ [])))
       take-words =
           let c = take-keeps s R N core i h none xs y ys cut len (length-append xs (y ∷ []) ∙ omega (arith, long-xs)) in
-          let e : rowsOf s (withNode s memory i (taken s l n)) ≡ put R i (takenRows (s .b) (rows s l) y) =
-          rows-with s memory size i h (taken s l n) (length-taken s l n ∙ stretch i h .long) ∙ ap (put R i) taken-is in
           let t : text s l (take n f) ≡ textIn (s .b) (rows s l) (take n f) = text-rows s (core .range) l (take n f) (λ x o. free-in x (omega (arith, occurs-split x n f)) .0) in
           let g : put N i (freed (N i) ys (record { chain = xs ++ y ∷ []; words = take len (textIn (s .b) (rows s l) (xs ++ y ∷ [])) } ∷ []))
           ≡ put N i (freed (N i) (drop n f) (record { chain = take n f; words = take len (text s l (take n f)) } ∷ [])) =
           ap₂ (λ (k u : List ℕ). put N i (freed (N i) u (record { chain = k; words = take len (textIn (s .b) (rows s l) k) } ∷ []))) front rest
           ∙ ap (λ (k : List ℕ). put N i (freed (N i) (drop n f) (record { chain = take n f; words = take len k } ∷ []))) (sym t) in
-          subst (λ (Q : ℕ → ℕ → List ℕ). Core s Q (put N i (freed (N i) (drop n f) (record { chain = take n f; words = take len (text s l (take n f)) } ∷ [])))) (sym e)
+          subst (λ (Q : ℕ → ℕ → List ℕ). Core s Q (put N i (freed (N i) (drop n f) (record { chain = take n f; words = take len (text s l (take n f)) } ∷ [])))) (sym taken-memory)
           (subst (λ (M : ℕ → Node). Core s (put R i (takenRows (s .b) (rows s l) y)) M) g c)
 
     -- the letter on its way
     module _ (L : Letter) (one : N i .letters 77 ≡ L ∷ []) where
+      written-memory : (ws : List ℕ) → length (L .chain) ≡ needs s (length ws) → rowsOf s (withNode s memory i (written s l (first L) ws)) ≡ put R i (fill (s .b) (rows s l) (L .chain) ws)
+      written-memory ws need =
+          rows-with s memory size i h (written s l (first L) ws) (length-laid s (needs s (length ws)) l (first L) ws ∙ stretch i h .long)
+          ∙ ap (put R i) (ap (λ (k : ℕ). rows s (laid s l k (first L) ws)) (sym need)
+          ∙ rows-written s (core .range) l (first L) (L .chain) 0 ws (λ x o. in-chain s R N core i h L one x o .0) (held-one s R N core i h L one .leads))
+
+      pub write-row : (ws : List ℕ) → length (L .chain) ≡ needs s (length ws) → (r : ℕ) → 1 ≤ r → r < 77
+          → rowsOf s (withNode s memory i (written s (node s memory i) (first L) ws)) i r ≡ rowsOf s memory i r
+      write-row ws need r a b =
+          ap (λ (Q : ℕ → ℕ → List ℕ). Q i r) (written-memory ws need)
+          ∙ ap (λ (g : ℕ → List ℕ). g r) (put-same R i (fill (s .b) (rows s l) (L .chain) ws))
+          ∙ fill-other (s .b) (rows s l) (L .chain) ws r (λ x o z. omega (arith, in-chain s R N core i h L one x o))
+
       -- WRITE
       pub write-words : (ws : List ℕ) → length (L .chain) ≡ needs s (length ws)
           → Core s (rowsOf s (withNode s memory i (written s (node s memory i) (first L) ws))) (put N i (freed (N i) (N i .free) (record { chain = L .chain; words = ws } ∷ [])))
       write-words ws need =
-          let e : rowsOf s (withNode s memory i (written s l (first L) ws)) ≡ put R i (fill (s .b) (rows s l) (L .chain) ws) =
-          rows-with s memory size i h (written s l (first L) ws) (length-laid s (needs s (length ws)) l (first L) ws ∙ stretch i h .long)
-          ∙ ap (put R i) (ap (λ (k : ℕ). rows s (laid s l k (first L) ws)) (sym need)
-          ∙ rows-written s (core .range) l (first L) (L .chain) 0 ws (λ x o. in-chain s R N core i h L one x o .0) (held-one s R N core i h L one .leads)) in
-          subst (λ (Q : ℕ → ℕ → List ℕ). Core s Q (put N i (freed (N i) (N i .free) (record { chain = L .chain; words = ws } ∷ [])))) (sym e)
+          subst (λ (Q : ℕ → ℕ → List ℕ). Core s Q (put N i (freed (N i) (N i .free) (record { chain = L .chain; words = ws } ∷ [])))) (sym (written-memory ws need))
           (write-keeps s R N core i h L one ws need)
 
       -- GIVE BACK
-      pub give-words : 1 ≤ length (L .chain)
-          → Core s (rowsOf s (withNode s memory i (givenBack s (node s memory i) (length (L .chain)) (first L)))) (put N i (freed (N i) (L .chain ++ N i .free) []))
-      give-words some =
-          let n : ℕ = length (L .chain) in
-          let us : List ℕ = take (n - 1) (L .chain) in
-          let v : ℕ = getD (L .chain) (n - 1) 0 in
-          let cut : L .chain ≡ us ++ v ∷ [] = cut-last (L .chain) some in
-          let z : suc (length us) ≡ n = omega (arith, length-take-le (n - 1) (L .chain) (omega arith)) in
-          let e : rowsOf s (withNode s memory i (givenBack s l n (first L))) ≡ put R i (givenRows (s .b) (rows s l) (first L) v) =
-          rows-with s memory size i h (givenBack s l n (first L)) (length-given s l n (first L) ∙ stretch i h .long)
-          ∙ ap (put R i) (ap (λ (k : ℕ). rows s (givenBack s l k (first L))) (sym z)
-          ∙ rows-given s l (stretch i h) (first L) us v 0
-          (subst (λ (k : List ℕ). (x : ℕ) → 1 ≤ occurs x k → 1 ≤ x) cut (λ x o. in-chain s R N core i h L one x o .0))
-          (subst (λ (k : List ℕ). Leads (s .b) (rows s l) (first L) k 0) cut (held-one s R N core i h L one .leads))) in
-          subst (λ (Q : ℕ → ℕ → List ℕ). Core s Q (put N i (freed (N i) (L .chain ++ N i .free) []))) (sym e)
-          (give-keeps s R N core i h L one us v cut)
+      module _ (some : 1 ≤ length (L .chain)) where
+        abbrev us : List ℕ
+        us = take (length (L .chain) - 1) (L .chain)
+
+        abbrev v : ℕ
+        v = getD (L .chain) (length (L .chain) - 1) 0
+
+        cut-chain : L .chain ≡ us ++ v ∷ []
+        cut-chain = cut-last (L .chain) some
+
+        long-us : suc (length us) ≡ length (L .chain)
+        long-us = omega (arith, length-take-le (length (L .chain) - 1) (L .chain) (omega arith))
+
+        v-one : 1 ≤ v
+        v-one = in-chain s R N core i h L one v (subst (λ (k : List ℕ). 1 ≤ occurs v k) (sym cut-chain) (omega (arith, occurs-append v us (v ∷ []), hit-self v))) .0
+
+        given-memory : rowsOf s (withNode s memory i (givenBack s l (length (L .chain)) (first L))) ≡ put R i (givenRows (s .b) (rows s l) (first L) v)
+        given-memory =
+            rows-with s memory size i h (givenBack s l (length (L .chain)) (first L)) (length-given s l (length (L .chain)) (first L) ∙ stretch i h .long)
+            ∙ ap (put R i) (ap (λ (k : ℕ). rows s (givenBack s l k (first L))) (sym long-us)
+            ∙ rows-given s l (stretch i h) (first L) us v 0
+            (subst (λ (k : List ℕ). (x : ℕ) → 1 ≤ occurs x k → 1 ≤ x) cut-chain (λ x o. in-chain s R N core i h L one x o .0))
+            (subst (λ (k : List ℕ). Leads (s .b) (rows s l) (first L) k 0) cut-chain (held-one s R N core i h L one .leads)))
+
+        pub give-row : (r : ℕ) → 1 ≤ r → r < 77 → rowsOf s (withNode s memory i (givenBack s (node s memory i) (length (L .chain)) (first L))) i r ≡ rowsOf s memory i r
+        give-row r a b =
+            ap (λ (Q : ℕ → ℕ → List ℕ). Q i r) given-memory
+            ∙ ap (λ (g : ℕ → List ℕ). g r) (put-same R i (givenRows (s .b) (rows s l) (first L) v))
+            ∙ given-other (s .b) (rows s l) (first L) v r (λ e. omega arith) (λ e. omega (arith, v-one))
+
+        pub give-words : Core s (rowsOf s (withNode s memory i (givenBack s (node s memory i) (length (L .chain)) (first L)))) (put N i (freed (N i) (L .chain ++ N i .free) []))
+        give-words =
+            subst (λ (Q : ℕ → ℕ → List ℕ). Core s Q (put N i (freed (N i) (L .chain ++ N i .free) []))) (sym given-memory)
+            (give-keeps s R N core i h L one us v cut-chain)
 
     -- THE ROOM COUNT
     pub room-words : Core s (rowsOf s (withNode s memory i (counted (node s memory i) roomAt))) N
@@ -283,7 +313,7 @@ module _ (s : Settings) (memory : List ℕ) (size : length memory ≡ memorySize
     pub task-take-row : (n : ℕ) → rowsOf s (withNode s memory i (takenOut s (node s memory i) (taskAt s q) n)) ≡ putRow (rowsOf s memory) i (13 + q) (takenOut s (rowsOf s memory i (13 + q)) 0 n)
     task-take-row n =
         ap (λ (a : ℕ). rowsOf s (withNode s memory i (takenOut s o a n))) (sym is-at)
-        ∙ row-with s memory size i h (takenOut s o at n) (queues.length-taken s o at n ∙ stretch i h .long) (13 + q) (takenOut s (R i (13 + q)) 0 n)
+        ∙ row-with s memory size i h (takenOut s o at n) (queues.length-taken-out s o at n ∙ stretch i h .long) (13 + q) (takenOut s (R i (13 + q)) 0 n)
         (but-taken (width s) o (13 + q) s wide (but-none (width s) o (13 + q)) n)
 
     pub task-empty-row : rowsOf s (withNode s memory i (counted (node s memory i) (taskAt s q + emptyWord))) ≡ putRow (rowsOf s memory) i (13 + q) (counted (rowsOf s memory i (13 + q)) 4)

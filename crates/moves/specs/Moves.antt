@@ -19,6 +19,10 @@ moved N p ls hs = record { free = N .free; letters = put (put (N .letters) p ls)
 unfoldable pub freed : Node → List ℕ → List Letter → Node
 freed N fr hs = record { free = fr; letters = put (N .letters) transit hs }
 
+-- the free list is fr, and the letters of place p are ls
+unfoldable pub placed : Node → List ℕ → ℕ → List Letter → Node
+placed N fr p ls = record { free = fr; letters = put (N .letters) p ls }
+
 -- the letters that are no gaps, in their order
 unfoldable pub liveOnes : List Letter → List Letter
 liveOnes [] = []

@@ -1,0 +1,239 @@
+-- Moves joined: what the calls do, in words, from the core to the core. Assumes nothing.
+--     grab-words     blocks taken and a letter written into them: the letter is on its way
+--     send-task-words, send-gap-words, send-queue-words     and appended: a send
+--     receive-words     a letter taken out of a task queue and its chain given back: a receive
+--     acknowledge-words     an acknowledge item dropped and its chain given back on its own node
+--     hand-over     a send item's block appended to an acknowledge queue, and the item dropped
+use mathlib.Core.Path.{_≡_, refl, sym, ap, ap₂, _∙_, subst, fun-ext}
+use mathlib.Core.List.{List, [], _∷_, _++_}
+use Prim.Native.Nat.{ℕ, zero, suc, _+_, _-_, _*_, _≤_, _<_}
+use native.Mathlib.Omega.{arith}
+use lib.ListN.{length, getD, take, drop}
+use lib.Seq.{length-take-le, getD-take}
+use Rattle.words.proofs.Lists.{put, put-same, put-other, put-put, same?}
+use Rattle.settings.specs.declared.Settings.{Settings}
+use Rattle.layout.specs.Places.{nodeSize, memorySize, node, withNode, sendAt, ackAt, taskAt, firstFreeAt}
+use Rattle.blocks.specs.Chain.{needs, free, text}
+use Rattle.blocks.specs.Moves.{taken, givenBack}
+use Rattle.blocks.proofs.Moves.{length-taken, length-given}
+use Rattle.letters.specs.Letter.{written}
+use Rattle.letters.proofs.Rows.{length-laid}
+use Rattle.queues.specs.Queue.{sendKind, ackKind, taskKind}
+use Rattle.queues.specs.Moves.{appended, dropped}
+use Rattle.queues.specs.Items.{gapFlag}
+use Rattle.queues.proofs.Tasks.{TaskRing}
+use Rattle.queues.proofs.Views.{length-appended, length-dropped}
+use Rattle.gaps.specs.Close.{taskAppended}
+use Rattle.taking.specs.Take.{takenOut}
+use Rattle.machine.specs.Machine.{Letter, gap, first, firsts, Live, Node, All, many}
+use Rattle.machine.specs.Core.{rowsOf, seat, line, kind, Held, Core}
+use Rattle.machine.proofs.Spelled.{list-first}
+use Rattle.machine.proofs.Places.{seat-send, line-send, kind-send, seat-ack, line-ack, kind-ack}
+use Rattle.machine.proofs.Gives.{gives-stretch, gives-list}
+use Rattle.moves.specs.Moves.{putRow, moved, freed, placed, liveOnes, lettersWithout}
+use Rattle.moves.proofs.Rows.{moved-at, moved-transit, moved-other, freed-transit, freed-other, row-apart}
+use Rattle.moves.proofs.Queues.{append-keeps, drop-keeps, length-taken-out}
+use Rattle.moves.proofs.Memory.{node-with, with-with, with-long, with-node}
+use Rattle.moves.proofs.Words.{take-row, take-words, write-row, write-words, give-words, send-append, ack-drop, task-append-words, task-gap-words, task-take-words}
+use Rattle.moves.proofs.Trace.{trace-append, trace-give, trace-move, trace-write}
+
+module _ (s : Settings) where
+  -- a core seen through equal rows and equal nodes
+  along : {R R′ : ℕ → ℕ → List ℕ} {N N′ : ℕ → Node} → R ≡ R′ → N ≡ N′ → Core s R N → Core s R′ N′
+  along {R} {R′} {N} {N′} e f c = subst (λ (Q : ℕ → ℕ → List ℕ). Core s Q N′) e (subst (λ (M : ℕ → Node). Core s R M) f c)
+
+module _ (s : Settings) (memory : List ℕ) (size : length memory ≡ memorySize s) (N : ℕ → Node) (core : Core s (rowsOf s memory) N) where
+  -- ---- TAKE AND WRITE
+  module _ (i : ℕ) (h : i < 6) (none : N i .letters 77 ≡ []) (ws : List ℕ) (some : 1 ≤ needs s (length ws)) (has : needs s (length ws) ≤ length (N i .free)) where
+    abbrev l : List ℕ
+    l = node s memory i
+
+    abbrev n : ℕ
+    n = needs s (length ws)
+
+    -- the first free block begins the letter
+    abbrev f : ℕ
+    f = getD (node s memory i) firstFreeAt 0
+
+    abbrev L : Letter
+    L = record { chain = take (needs s (length ws)) (N i .free); words = ws }
+
+    first-is : first L ≡ f
+    first-is =
+        getD-take n (N i .free) 0 0 some
+        ∙ ap (λ (c : List ℕ). getD c 0 0) (sym (gives-list s memory size N core i h))
+        ∙ list-first s l (s .m) f (core .range .m .low)
+
+    abbrev L₀ : Letter
+    L₀ = record { chain = take (needs s (length ws)) (N i .free); words = take (length ws) (text s (node s memory i) (take (needs s (length ws)) (N i .free))) }
+
+    abbrev l₁ : List ℕ
+    l₁ = taken s (node s memory i) (needs s (length ws))
+
+    long₁ : length l₁ ≡ nodeSize s
+    long₁ = length-taken s l n ∙ gives-stretch s memory size N core i h .long
+
+    abbrev m₁ : List ℕ
+    m₁ = withNode s memory i l₁
+
+    size₁ : length m₁ ≡ memorySize s
+    size₁ = with-long s memory size i h l₁ long₁ ∙ size
+
+    abbrev X₁ : Node
+    X₁ = freed (N i) (drop n (N i .free)) (L₀ ∷ [])
+
+    core₁ : Core s (rowsOf s m₁) (put N i X₁)
+    core₁ = take-words s memory size N core i h none n (length ws) some has refl
+
+    one₁ : put N i X₁ i .letters 77 ≡ L₀ ∷ []
+    one₁ = ap (λ (Y : Node). Y .letters 77) (put-same N i X₁) ∙ freed-transit (N i) (drop n (N i .free)) (L₀ ∷ [])
+
+    need₁ : length (L₀ .chain) ≡ needs s (length ws)
+    need₁ = length-take-le n (N i .free) has
+
+    abbrev l₂ : List ℕ
+    l₂ = written s (taken s (node s memory i) (needs s (length ws))) (getD (node s memory i) firstFreeAt 0) ws
+
+    long₂ : length l₂ ≡ nodeSize s
+    long₂ = length-laid s n l₁ f ws ∙ long₁
+
+    memory₂ : withNode s m₁ i (written s (node s m₁ i) (first L₀) ws) ≡ withNode s memory i l₂
+    memory₂ =
+        ap₂ (λ (k : List ℕ) (b : ℕ). withNode s m₁ i (written s k b ws)) (node-with s memory size i h l₁ long₁) first-is
+        ∙ with-with s memory size i h l₁ long₁ l₂
+
+    free-put : put N i X₁ i .free ≡ drop n (N i .free)
+    unfolding freed
+    free-put = ap (λ (Y : Node). Y .free) (put-same N i X₁)
+
+    nodes₂ : put (put N i X₁) i (freed (put N i X₁ i) (put N i X₁ i .free) (L ∷ [])) ≡ put N i (freed (N i) (drop n (N i .free)) (L ∷ []))
+    nodes₂ =
+        put-put N i X₁ (freed (put N i X₁ i) (put N i X₁ i .free) (L ∷ []))
+        ∙ ap (put N i)
+        (ap₂ (λ (Y : Node) (c : List ℕ). freed Y c (L ∷ [])) (put-same N i X₁) free-put
+        ∙ trace-write (N i) (drop n (N i .free)) (drop n (N i .free)) (L₀ ∷ []) (L ∷ []))
+
+    -- the letter is on its way
+    pub grab-words : Core s (rowsOf s (withNode s memory i (written s (taken s (node s memory i) (needs s (length ws))) (getD (node s memory i) firstFreeAt 0) ws)))
+        (put N i (freed (N i) (drop (needs s (length ws)) (N i .free)) (record { chain = take (needs s (length ws)) (N i .free); words = ws } ∷ [])))
+    grab-words = along s (ap (rowsOf s) memory₂) nodes₂ (write-words s m₁ size₁ (put N i X₁) core₁ i h L₀ one₁ ws need₁)
+
+    -- and no queue's row has changed
+    pub grab-row : (r : ℕ) → 1 ≤ r → r < 77
+        → rowsOf s (withNode s memory i (written s (taken s (node s memory i) (needs s (length ws))) (getD (node s memory i) firstFreeAt 0) ws)) i r ≡ rowsOf s memory i r
+    grab-row r a b =
+        ap (λ (m : List ℕ). rowsOf s m i r) (sym memory₂)
+        ∙ write-row s m₁ size₁ (put N i X₁) core₁ i h L₀ one₁ ws need₁ r a b
+        ∙ take-row s memory size N core i h none n (length ws) some has refl r a b
+
+    -- ---- the memory with the letter on its way
+    abbrev m₂ : List ℕ
+    m₂ = withNode s memory i l₂
+
+    size₂ : length m₂ ≡ memorySize s
+    size₂ = with-long s memory size i h l₂ long₂ ∙ size
+
+    abbrev X₂ : Node
+    X₂ = freed (N i) (drop n (N i .free)) (L ∷ [])
+
+    one₂ : put N i X₂ i .letters 77 ≡ L ∷ []
+    one₂ = ap (λ (Y : Node). Y .letters 77) (put-same N i X₂) ∙ freed-transit (N i) (drop n (N i .free)) (L ∷ [])
+
+    letters₂ : (p : ℕ) → (p ≡ 77 → ⊥) → put N i X₂ i .letters p ≡ N i .letters p
+    letters₂ p ne = ap (λ (Y : Node). Y .letters p) (put-same N i X₂) ∙ freed-other (N i) (drop n (N i .free)) (L ∷ []) p ne
+
+    nodes₃ : (p : ℕ) (ks : List Letter) → (p ≡ 77 → ⊥) → put (put N i X₂) i (moved (put N i X₂ i) p ks []) ≡ put N i (placed (N i) (drop n (N i .free)) p ks)
+    nodes₃ p ks ne =
+        put-put N i X₂ (moved (put N i X₂ i) p ks [])
+        ∙ ap (put N i) (ap (λ (Y : Node). moved Y p ks []) (put-same N i X₂) ∙ trace-append (N i) p ks (L ∷ []) ne none (drop n (N i .free)))
+
+    -- what an append to the stretch leaves of the memory
+    memory₃ : (g : List ℕ → ℕ → List ℕ) → withNode s m₂ i (g (node s m₂ i) (first L)) ≡ withNode s memory i (g l₂ f)
+    memory₃ g =
+        ap₂ (λ (k : List ℕ) (b : ℕ). withNode s m₂ i (g k b)) (node-with s memory size i h l₂ long₂) first-is
+        ∙ with-with s memory size i h l₂ long₂ (g l₂ f)
+
+    -- ---- A SEND to a task queue
+    module _ (q : ℕ) (g : q < 64) (t : TaskRing s (rowsOf s memory i (13 + q)) 0 (firsts (N i .letters (13 + q)))) (begins : first L ≡ 0 → ⊥) where
+      not-77 : 13 + q ≡ 77 → ⊥
+      not-77 e = omega arith
+
+      same-ls : put N i X₂ i .letters (13 + q) ≡ N i .letters (13 + q)
+      same-ls = letters₂ (13 + q) not-77
+
+      ring₂ : TaskRing s (rowsOf s m₂ i (13 + q)) 0 (firsts (put N i X₂ i .letters (13 + q)))
+      ring₂ =
+          subst (λ (w : List ℕ). TaskRing s w 0 (firsts (put N i X₂ i .letters (13 + q)))) (sym (grab-row (13 + q) (omega arith) (omega arith)))
+          (subst (λ (k : List Letter). TaskRing s (rowsOf s memory i (13 + q)) 0 (firsts k)) (sym same-ls) t)
+
+      pub send-task-words : length (N i .letters (13 + q)) < s .t
+          → Core s (rowsOf s (withNode s memory i (taskAppended s (written s (taken s (node s memory i) (needs s (length ws))) (getD (node s memory i) firstFreeAt 0) ws) (taskAt s q) (getD (node s memory i) firstFreeAt 0))))
+          (put N i (placed (N i) (drop (needs s (length ws)) (N i .free)) (13 + q) (N i .letters (13 + q) ++ record { chain = take (needs s (length ws)) (N i .free); words = ws } ∷ [])))
+      send-task-words less =
+          along s (ap (rowsOf s) (memory₃ (λ k b. taskAppended s k (taskAt s q) b)))
+          (nodes₃ (13 + q) (put N i X₂ i .letters (13 + q) ++ L ∷ []) not-77 ∙ ap (λ (k : List Letter). put N i (placed (N i) (drop n (N i .free)) (13 + q) (k ++ L ∷ []))) same-ls)
+          (task-append-words s m₂ size₂ (put N i X₂) grab-words i q h g ring₂ L one₂ begins (subst (λ (k : List Letter). length k < s .t) (sym same-ls) less))
+
+      pub send-gap-words : length (N i .letters (13 + q)) ≡ s .t → gapFlag (firsts (N i .letters (13 + q))) ≡ 1
+          → Core s (rowsOf s (withNode s memory i (taskAppended s (written s (taken s (node s memory i) (needs s (length ws))) (getD (node s memory i) firstFreeAt 0) ws) (taskAt s q) (getD (node s memory i) firstFreeAt 0))))
+          (put N i (placed (N i) (drop (needs s (length ws)) (N i .free)) (13 + q) (liveOnes (N i .letters (13 + q)) ++ record { chain = take (needs s (length ws)) (N i .free); words = ws } ∷ [])))
+      send-gap-words full gaps =
+          along s (ap (rowsOf s) (memory₃ (λ k b. taskAppended s k (taskAt s q) b)))
+          (nodes₃ (13 + q) (liveOnes (put N i X₂ i .letters (13 + q)) ++ L ∷ []) not-77 ∙ ap (λ (k : List Letter). put N i (placed (N i) (drop n (N i .free)) (13 + q) (liveOnes k ++ L ∷ []))) same-ls)
+          (task-gap-words s m₂ size₂ (put N i X₂) grab-words i q h g ring₂ L one₂ begins
+          (subst (λ (k : List Letter). length k ≡ s .t) (sym same-ls) full) (subst (λ (k : List Letter). gapFlag (firsts k) ≡ 1) (sym same-ls) gaps))
+
+    -- ---- A SEND to a send queue
+    pub send-queue-words : (k : ℕ) → k < 6 → length (N i .letters (1 + k)) < s .s
+        → Core s (rowsOf s (withNode s memory i (appended (sendKind s) (written s (taken s (node s memory i) (needs s (length ws))) (getD (node s memory i) firstFreeAt 0) ws) (sendAt s k) (getD (node s memory i) firstFreeAt 0))))
+        (put N i (placed (N i) (drop (needs s (length ws)) (N i .free)) (1 + k) (N i .letters (1 + k) ++ record { chain = take (needs s (length ws)) (N i .free); words = ws } ∷ [])))
+    send-queue-words k g less =
+        let ne : 1 + k ≡ 77 → ⊥ = λ e. omega arith in
+        let e : put N i X₂ i .letters (1 + k) ≡ N i .letters (1 + k) = letters₂ (1 + k) ne in
+        along s (ap (rowsOf s) (memory₃ (λ x b. appended (sendKind s) x (sendAt s k) b)))
+        (nodes₃ (1 + k) (put N i X₂ i .letters (1 + k) ++ L ∷ []) ne ∙ ap (λ (x : List Letter). put N i (placed (N i) (drop n (N i .free)) (1 + k) (x ++ L ∷ []))) e)
+        (send-append s m₂ size₂ (put N i X₂) grab-words i k h g L one₂ (subst (λ (x : List Letter). length x < s .s) (sym e) less))
+
+  -- ---- A LETTER OUT OF PLACE p OF NODE i IS ON ITS WAY in memory m: its chain is given back
+  module _ (i : ℕ) (h : i < 6) (none : N i .letters 77 ≡ []) (p : ℕ) (ne : p ≡ 77 → ⊥) (L : Letter) (ks : List Letter) (live : Live L) (m : List ℕ) (long : length m ≡ memorySize s)
+      (out : Core s (rowsOf s m) (put N i (moved (N i) p ks (L ∷ [])))) where
+    abbrev Y : Node
+    Y = moved (N i) p ks (L ∷ [])
+
+    free-y : put N i Y i .free ≡ N i .free
+    unfolding moved
+    free-y = ap (λ (Z : Node). Z .free) (put-same N i Y)
+
+    pub back-words : Core s (rowsOf s (withNode s m i (givenBack s (node s m i) (length (L .chain)) (first L)))) (put N i (placed (N i) (L .chain ++ N i .free) p ks))
+    back-words =
+        along s refl
+        (put-put N i Y (freed (put N i Y i) (L .chain ++ put N i Y i .free) [])
+        ∙ ap (put N i) (ap₂ (λ (Z : Node) (c : List ℕ). freed Z (L .chain ++ c) []) (put-same N i Y) free-y ∙ trace-give (N i) p ks (L ∷ []) ne none (L .chain ++ N i .free)))
+        (give-words s m long (put N i Y) out i h L (ap (λ (Z : Node). Z .letters 77) (put-same N i Y) ∙ moved-transit (N i) p ks (L ∷ []) ne) live)
+
+  -- ---- A RECEIVE: the letter at place n of task queue q, taken out and given back
+  pub receive-words : (i q n : ℕ) → i < 6 → q < 64 → N i .letters 77 ≡ [] → TaskRing s (rowsOf s memory i (13 + q)) 0 (firsts (N i .letters (13 + q)))
+      → n < length (N i .letters (13 + q)) → Live (getD (N i .letters (13 + q)) n gap)
+      → Core s (rowsOf s (withNode s memory i (givenBack s (takenOut s (node s memory i) (taskAt s q) n) (length (getD (N i .letters (13 + q)) n gap .chain)) (first (getD (N i .letters (13 + q)) n gap)))))
+      (put N i (placed (N i) (getD (N i .letters (13 + q)) n gap .chain ++ N i .free) (13 + q) (lettersWithout n (N i .letters (13 + q)))))
+  receive-words i q n h g none t is live =
+      let L : Letter = getD (N i .letters (13 + q)) n gap in
+      let o : List ℕ = takenOut s (node s memory i) (taskAt s q) n in
+      let z : length o ≡ nodeSize s = length-taken-out s (node s memory i) (taskAt s q) n ∙ gives-stretch s memory size N core i h .long in
+      along s
+      (ap (λ (x : List ℕ). rowsOf s (withNode s (withNode s memory i o) i (givenBack s x (length (L .chain)) (first L)))) (node-with s memory size i h o z)
+      ∙ ap (rowsOf s) (with-with s memory size i h o z (givenBack s o (length (L .chain)) (first L))))
+      refl
+      (back-words i h none (13 + q) (λ e. omega arith) L (lettersWithout n (N i .letters (13 + q))) live (withNode s memory i o) (with-long s memory size i h o z ∙ size)
+      (task-take-words s memory size N core i q h g t n is none))
+
+  -- ---- AN ACKNOWLEDGEMENT: the first item of acknowledge queue i on node k is dropped, its chain given back on node i
+  pub acknowledge-words : (i k : ℕ) → i < 6 → k < 6 → (k ≡ i → ⊥) → N i .letters 77 ≡ [] → (L : Letter) (ls : List Letter) → N i .letters (7 + k) ≡ L ∷ ls → Live L
+      → Core s (rowsOf s (withNode s (withNode s memory k (dropped (ackKind s) (node s memory k) (ackAt s i))) i (givenBack s (node s memory i) (length (L .chain)) (first L))))
+      (put N i (placed (N i) (L .chain ++ N i .free) (7 + k) ls))
+  acknowledge-words i k h g apart none L ls e live =
+      let d : List ℕ = dropped (ackKind s) (node s memory k) (ackAt s i) in
+      let z : length d ≡ nodeSize s = length-dropped (ackKind s) (node s memory k) (ackAt s i) ∙ gives-stretch s memory size N core k g .long in
+      let w : node s (withNode s memory k d) i ≡ node s memory i = with-node s memory size k g d z i ∙ put-other (node s memory) k d i (λ q. apart (sym q)) in
+      along s (ap (λ (x : List ℕ). rowsOf s (withNode s (withNode s memory k d) i (givenBack s x (length (L .chain)) (first L)))) w) refl
+      (back-words i h none (7 + k) (λ q. omega arith) L ls live (withNode s memory k d) (with-long s memory size k g d z ∙ size) (ack-drop s memory size N core i k h g L ls [] e none))
