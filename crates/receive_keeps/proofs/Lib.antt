@@ -1,0 +1,3 @@
+pub mod Anew
+pub mod Ones
+pub mod Taken
