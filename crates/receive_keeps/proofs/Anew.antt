@@ -1,19 +1,17 @@
 -- A node's stretch put anew, whose queues differ in one task queue alone: what the memory represents after it. Assumes nothing.
-use mathlib.Core.Path.{_≡_, refl, sym, ap, _∙_, subst}
-use mathlib.Core.Bool.{true}
-use mathlib.Core.List.{List, [], map}
+use mathlib.Core.Path.{_≡_, sym, ap, _∙_}
+use mathlib.Core.List.{List, []}
 use Prim.Native.Nat.{ℕ, _+_, _*_, _≤_, _<_}
 use native.Mathlib.Omega.{arith}
-use lib.ListN.{length, getD, take}
-use Rattle.words.proofs.Lists.{put, put-same, put-other, same?}
+use lib.ListN.{length, getD}
+use Rattle.words.proofs.Lists.{put, put-other, same?}
 use Rattle.settings.specs.declared.Settings.{Settings}
-use Rattle.layout.specs.Places.{gapWord, nodeSize, node, withNode, positionAt}
-use Rattle.tasks.specs.Table.{rightTable}
+use Rattle.layout.specs.Places.{gapWord, nodeSize, node, withNode}
 use Rattle.blocks.proofs.Rows.{rows}
 use Rattle.queues.specs.Items.{gapFlag}
 use Rattle.queues.proofs.Items.{FirstLive}
 use Rattle.sound.specs.Reading.{tableIn}
-use Rattle.machine.specs.Machine.{Letter, firsts, Live, wordsOf, Node, Machine, All}
+use Rattle.machine.specs.Machine.{Letter, firsts, Live, Node, Machine, All}
 use Rattle.machine.specs.Core.{rowsOf, Core}
 use Rattle.machine.specs.Represents.{Right, RightPosition, WellFormed, Shows, RepresentsAt}
 use Rattle.moves.proofs.Memory.{with-node, with-long, with-word, with-table}

@@ -1,32 +1,31 @@
 -- Taking a letter, from a sound memory to the machine that the memory spells after it: nothing found, and a letter found. Assumes nothing.
 use mathlib.Core.Path.{_≡_, refl, sym, ap, ap₂, _∙_, subst}
 use mathlib.Core.Bool.{Bool, true, false, cond, _||_}
-use mathlib.Core.List.{List, [], _∷_, _++_, map}
-use Prim.Native.Nat.{ℕ, zero, suc, _+_, _≤_, _<_}
+use mathlib.Core.List.{List, [], _∷_, map}
+use Prim.Native.Nat.{ℕ, zero, suc, _+_, _<_}
 use native.Mathlib.Omega.{arith}
 use lib.Dec.{eqb}
 use lib.ListN.{length, getD, take, drop}
+use lib.Seq.{take-all}
 use borrow.Author.Tests.{ne-eqb}
 use Rattle.words.proofs.Lists.{put, put-same, put-other}
 use Rattle.settings.specs.declared.Settings.{Settings}
-use Rattle.layout.specs.Places.{emptyWord, nodeSize, memorySize, node, withNode, taskAt, blockAt}
-use Rattle.layout.specs.Numbers.{headerWords, sourceTaskWord}
+use Rattle.layout.specs.Places.{emptyWord, nodeSize, memorySize, node, withNode, taskAt}
 use Rattle.blocks.specs.Moves.{givenBack}
 use Rattle.letters.specs.Letter.{onto}
-use Rattle.queues.specs.Queue.{taskKind, itemAt, contents}
+use Rattle.queues.specs.Queue.{taskKind, contents}
 use Rattle.queues.specs.Moves.{counted}
 use Rattle.queues.proofs.Ring.{Ring, ring-contents}
 use Rattle.taking.specs.Take.{takenOut}
-use Rattle.taking.specs.declared.Found.the-variants.{At}
+use Rattle.taking.specs.declared.Found.the-variants.{At, Nothing}
 use Rattle.taking.specs.Find.{from, wanted, found}
-use Rattle.taking.proofs.First.{IsFirst, found-at, wanted-live}
+use Rattle.taking.proofs.First.{IsFirst, found-at, found-nothing, wanted-live}
 use Rattle.sound.specs.Reading.{settingsIn, tableIn, taskItems}
 use Rattle.sound.specs.Letters.{chainFrom, wordsFrom}
 use Rattle.sound.specs.Sound.{sound}
 use Rattle.receive.specs.Take.{blockOf, sourceOf, bodyOf, emptied}
 use Rattle.machine.specs.Machine.{Letter, gap, first, firsts, Live, Node, Machine, All}
-use Rattle.machine.specs.Spelled.{letterFrom, shown, nodeFrom, machineOf}
-use Rattle.machine.specs.Core.{rowsOf, Core}
+use Rattle.machine.specs.Spelled.{letterFrom, nodeFrom, machineOf}
 use Rattle.machine.specs.Represents.{Right, RepresentsAt, Represents}
 use Rattle.machine.proofs.Letters.{length-firsts, all-at, alive}
 use Rattle.machine.proofs.Places.{shown-task}
@@ -34,16 +33,26 @@ use Rattle.machine.proofs.Spelled.{first-from}
 use Rattle.machine.proofs.Gives.{gives-task, gives-source}
 use Rattle.machine.proofs.Sound.{sound-represents}
 use Rattle.machine.proofs.Back.{represents-sound-at, same-turn, same-stage, same-other, same-free, same-letters}
-use Rattle.moves.specs.Moves.{liveOnes, lettersWithout}
-use Rattle.moves.proofs.Memory.{with-settings}
-use Rattle.receive_keeps.specs.Receives.{Stays, asked, Receives}
+use Rattle.moves.specs.Moves.{liveOnes}
+use Rattle.moves.proofs.Memory.{with-long, with-settings, with-table}
+use Rattle.receive_keeps.specs.Receives.{Fixed, asked, NoneAsked, Stays, Receives}
 use Rattle.receive_keeps.proofs.Anew.{withNodes}
 use Rattle.receive_keeps.proofs.Ones.{ones-without, ones-split, ones-before, firsts-at}
-use Rattle.receive_keeps.proofs.Taken.{without-letter, without-free, long-empty, represents-empty, long-taken, taken-same, taken-here, represents-taken}
+use Rattle.receive_keeps.proofs.Taken.{withoutLetter, without-free, long-empty, represents-empty, long-taken, taken-same, taken-here, represents-taken}
 
--- with the settings that stand in it
+-- what is represented with settings s is represented with those that stand in the memory
 represents-own : (s : Settings) (memory : List ℕ) (m : Machine) → settingsIn memory ≡ s → RepresentsAt s memory m → Represents memory m
 represents-own s memory m q e = subst (λ (x : Settings). RepresentsAt x memory m) (sym q) e
+
+-- a stretch put anew leaves the size, the settings and the task table
+fixed-with : (memory : List ℕ) → length memory ≡ memorySize (settingsIn memory) → (i : ℕ) → i < 6 → (l : List ℕ) → length l ≡ nodeSize (settingsIn memory)
+    → Fixed memory (withNode (settingsIn memory) memory i l)
+fixed-with memory size i h l long =
+    record {
+      size = with-long (settingsIn memory) memory size i h l long;
+      settings = with-settings (settingsIn memory) memory size i h l long;
+      table = with-table (settingsIn memory) memory size i h l long;
+    }
 
 -- ---- the letter that is found is the one asked for
 or-cond : (a b : Bool) → cond a true b ≡ (a || b)
@@ -66,6 +75,16 @@ module _ (s : Settings) (memory : List ℕ) (m : Machine) (rep : RepresentsAt s 
       let e = gives-source s memory (rep .size) (m .node) (rep .core) i (13 + q) n h (omega arith) a (tableIn memory) ok in
       rw (ne-eqb (first K) 0 v)
       (ap (λ (x : ℕ). cond (eqb source 0) true (eqb x source)) e ∙ or-cond (eqb source 0) (eqb (getD (K .words) 0 0) source))
+
+  -- nothing is found where none is asked for
+  pub found-none : found s (node s memory i) (taskAt s q) source ≡ Nothing → NoneAsked m i q source
+  found-none f =
+      let p : (n : ℕ) → n < length (firsts ks) → wanted s (node s memory i) source (getD (firsts ks) n 0) ≡ false =
+      subst (λ (xs : List ℕ). (n : ℕ) → n < length xs → wanted s (node s memory i) source (getD xs n 0) ≡ false) items-are
+      (found-nothing (wanted s (node s memory i) source) (contents (taskKind s) (node s memory i) (taskAt s q)) f) in
+      subst (λ (k : List Letter). All (λ L. asked source L ≡ false) (liveOnes k)) (take-all (length ks) ks (omega arith))
+      (ones-before (λ (L : Letter). asked source L ≡ false) (length ks) ks (λ j a b v.
+      sym (wanted-asked j b v) ∙ ap (wanted s (node s memory i) source) (sym (firsts-at ks j)) ∙ p j (omega (arith, length-firsts ks))))
 
   module _ (n : ℕ) (f : found s (node s memory i) (taskAt s q) source ≡ At n) where
     is-first : IsFirst (wanted s (node s memory i) source) (firsts ks) n
@@ -131,6 +150,12 @@ module _ (memory : List ℕ) (e : sound memory ≡ true) (i q : ℕ) (h : i < 6)
   settings₀ : settingsIn m₀ ≡ s
   settings₀ = with-settings s memory (rep .size) i h (counted l (taskAt s q + 4)) (long-empty s memory m rep i q h g)
 
+  pub vain-fixed : Fixed memory (withNode (settingsIn memory) memory i (counted (node (settingsIn memory) memory i) (taskAt (settingsIn memory) q + emptyWord)))
+  vain-fixed = fixed-with memory (rep .size) i h (counted l (taskAt s q + 4)) (long-empty s memory m rep i q h g)
+
+  pub vain-none : (source : ℕ) → found (settingsIn memory) (node (settingsIn memory) memory i) (taskAt (settingsIn memory) q) source ≡ Nothing → NoneAsked (machineOf memory) i q source
+  vain-none source f = found-none s memory m rep i q source h g f
+
   pub vain-sound : sound (withNode (settingsIn memory) memory i (counted (node (settingsIn memory) memory i) (taskAt (settingsIn memory) q + emptyWord))) ≡ true
   vain-sound = represents-sound-at s m₀ m settings₀ rep₀
 
@@ -157,9 +182,6 @@ module _ (memory : List ℕ) (e : sound memory ≡ true) (i q : ℕ) (h : i < 6)
     live-l = found-live s memory m rep i q source h g n f
 
     -- it is the letter that the item at index n begins
-    block : ℕ
-    block = itemAt (taskKind s) l (taskAt s q) n
-
     abbrev t : Ring (taskKind s) l (taskAt s q) (firsts ls)
     t = gives-task s memory (rep .size) (m .node) (rep .core) i q h g
 
@@ -195,15 +217,19 @@ module _ (memory : List ℕ) (e : sound memory ≡ true) (i q : ℕ) (h : i < 6)
     m₁ = withNode s memory i (emptied s l q source n)
 
     abbrev M : Machine
-    M = withNodes (machineOf memory) (put (machineOf memory .node) i (without-letter (machineOf memory .node i) (13 + q) n))
+    M = withNodes (machineOf memory) (put (machineOf memory .node) i (withoutLetter (machineOf memory .node i) (13 + q) n))
 
     rep₁ : RepresentsAt s m₁ M
     rep₁ = subst (λ (x : List ℕ). RepresentsAt s (withNode s memory i x) M) stretch-is (represents-taken s memory m rep i q h g n within live-l)
 
+    long₁ : length (emptied s l q source n) ≡ nodeSize s
+    long₁ = ap length (sym stretch-is) ∙ long-taken s memory m rep i q h g n within live-l
+
     settings₁ : settingsIn m₁ ≡ s
-    settings₁ =
-        with-settings s memory (rep .size) i h (emptied s l q source n)
-        (ap length (sym stretch-is) ∙ long-taken s memory m rep i q h g n within live-l)
+    settings₁ = with-settings s memory (rep .size) i h (emptied s l q source n) long₁
+
+    pub done-fixed : Fixed memory (withNode (settingsIn memory) memory i (emptied (settingsIn memory) (node (settingsIn memory) memory i) q source n))
+    done-fixed = fixed-with memory (rep .size) i h (emptied s l q source n) long₁
 
     pub done-sound : sound (withNode (settingsIn memory) memory i (emptied (settingsIn memory) (node (settingsIn memory) memory i) q source n)) ≡ true
     done-sound = represents-sound-at s m₁ M settings₁ rep₁
@@ -225,8 +251,8 @@ module _ (memory : List ℕ) (e : sound memory ≡ true) (i q : ℕ) (h : i < 6)
           source-told = ap (λ (w : List ℕ). getD w 0 0) (sym words-are);
           length-told = ap (λ (w : List ℕ). length (drop 5 w)) (sym words-are);
           written = ap (λ (w : List ℕ). onto (drop 5 w) out) (sym words-are);
-          back = same-free m₁ M r i h ∙ ap (λ (X : Node). X .free) (put-same (m .node) i (without-letter (m .node i) (13 + q) n)) ∙ without-free (m .node i) (13 + q) n;
-          free = λ k a c. same-free m₁ M r k a ∙ ap (λ (X : Node). X .free) (put-other (m .node) i (without-letter (m .node i) (13 + q) n) k c);
+          back = same-free m₁ M r i h ∙ ap (λ (X : Node). X .free) (put-same (m .node) i (withoutLetter (m .node i) (13 + q) n)) ∙ without-free (m .node i) (13 + q) n;
+          free = λ k a c. same-free m₁ M r k a ∙ ap (λ (X : Node). X .free) (put-other (m .node) i (withoutLetter (m .node i) (13 + q) n) k c);
           letters = λ k p a b c. same-letters m₁ M r k p a (omega arith) ∙ taken-same s memory m rep i q h g n within live-l k p a b c;
           turn = same-turn m₁ M r;
           stage = same-stage m₁ M r;

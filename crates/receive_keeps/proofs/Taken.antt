@@ -1,12 +1,12 @@
 -- What a memory represents after the empty count of a task queue rose, and after a letter was taken out of it and its chain given back. Assumes nothing.
 use mathlib.Core.Path.{_≡_, refl, sym, ap, _∙_, subst}
 use mathlib.Core.List.{List, [], _∷_, _++_}
-use Prim.Native.Nat.{ℕ, _+_, _≤_, _<_}
+use Prim.Native.Nat.{ℕ, _+_, _<_}
 use native.Mathlib.Omega.{arith}
 use lib.ListN.{length, getD}
 use Rattle.words.proofs.Lists.{put, put-same, put-other, same?}
 use Rattle.settings.specs.declared.Settings.{Settings}
-use Rattle.layout.specs.Places.{gapWord, emptyWord, nodeSize, memorySize, node, withNode, taskAt}
+use Rattle.layout.specs.Places.{emptyWord, nodeSize, memorySize, node, withNode, taskAt}
 use Rattle.blocks.specs.Moves.{givenBack}
 use Rattle.blocks.proofs.Moves.{length-given}
 use Rattle.queues.specs.Moves.{counted}
@@ -16,7 +16,7 @@ use Rattle.queues.proofs.Tasks.{TaskRing}
 use Rattle.taking.specs.Take.{takenOut}
 use Rattle.sound.specs.Reading.{tableIn}
 use Rattle.machine.specs.Machine.{Letter, gap, first, firsts, Live, Node, Machine, All}
-use Rattle.machine.specs.Core.{rowsOf, Core}
+use Rattle.machine.specs.Core.{rowsOf}
 use Rattle.machine.specs.Represents.{Right, RepresentsAt}
 use Rattle.machine.proofs.Gives.{gives-stretch, gives-row}
 use Rattle.moves.specs.Moves.{putRow, moved, placed, lettersWithout}
@@ -29,19 +29,19 @@ use Rattle.moves.proofs.Calls.{receive-words}
 use Rattle.receive_keeps.proofs.Anew.{withNodes, represents-anew}
 
 -- a node after the letter at index n of place p was taken out and its chain given back
-abbrev pub without-letter : Node → ℕ → ℕ → Node
-without-letter X p n = placed X (getD (X .letters p) n gap .chain ++ X .free) p (lettersWithout n (X .letters p))
+abbrev pub withoutLetter : Node → ℕ → ℕ → Node
+withoutLetter X p n = placed X (getD (X .letters p) n gap .chain ++ X .free) p (lettersWithout n (X .letters p))
 
 module _ (X : Node) (p n : ℕ) where
-  pub without-free : without-letter X p n .free ≡ getD (X .letters p) n gap .chain ++ X .free
+  pub without-free : withoutLetter X p n .free ≡ getD (X .letters p) n gap .chain ++ X .free
   unfolding placed
   without-free = refl
 
-  pub without-at : without-letter X p n .letters p ≡ lettersWithout n (X .letters p)
+  pub without-at : withoutLetter X p n .letters p ≡ lettersWithout n (X .letters p)
   unfolding placed
   without-at = put-same (X .letters) p (lettersWithout n (X .letters p))
 
-  pub without-other : (k : ℕ) → (k ≡ p → ⊥) → without-letter X p n .letters k ≡ X .letters k
+  pub without-other : (k : ℕ) → (k ≡ p → ⊥) → withoutLetter X p n .letters k ≡ X .letters k
   unfolding placed
   without-other k e = put-other (X .letters) p (lettersWithout n (X .letters p)) k e
 
@@ -119,7 +119,7 @@ module _ (s : Settings) (memory : List ℕ) (m : Machine) (rep : RepresentsAt s 
         ∙ ap (λ (Q : ℕ → ℕ → List ℕ). Q i (13 + r)) (task-take-row s memory (rep .size) (m .node) (rep .core) i q h g ring-of n)
 
     abbrev X : Node
-    X = without-letter (m .node i) (13 + q) n
+    X = withoutLetter (m .node i) (13 + q) n
 
     here : put (m .node) i X i .letters (13 + q) ≡ lettersWithout n ls
     here = ap (λ (Y : Node). Y .letters (13 + q)) (put-same (m .node) i X) ∙ without-at (m .node i) (13 + q) n
@@ -130,18 +130,18 @@ module _ (s : Settings) (memory : List ℕ) (m : Machine) (rep : RepresentsAt s 
         (λ e t. rw t (without-other (m .node i) (13 + q) n 77 (λ z. omega arith) ∙ rep .formed .still i h))
         (λ e t. rw t (rep .formed .still k a))
 
-    pub taken-same : (k p : ℕ) → k < 6 → p < 77 → (k ≡ i → p ≡ 13 + q → ⊥) → put (m .node) i (without-letter (m .node i) (13 + q) n) k .letters p ≡ m .node k .letters p
+    pub taken-same : (k p : ℕ) → k < 6 → p < 77 → (k ≡ i → p ≡ 13 + q → ⊥) → put (m .node) i (withoutLetter (m .node i) (13 + q) n) k .letters p ≡ m .node k .letters p
     taken-same k p a b c =
         same? k i
         (λ e t. rw t (without-other (m .node i) (13 + q) n p (c e) ∙ ap (λ (y : ℕ). m .node y .letters p) (sym e)))
         (λ e t. rw t)
 
-    pub taken-here : put (m .node) i (without-letter (m .node i) (13 + q) n) i .letters (13 + q) ≡ lettersWithout n (m .node i .letters (13 + q))
+    pub taken-here : put (m .node) i (withoutLetter (m .node i) (13 + q) n) i .letters (13 + q) ≡ lettersWithout n (m .node i .letters (13 + q))
     taken-here = here
 
     pub represents-taken : RepresentsAt s
         (withNode s memory i (givenBack s (takenOut s (node s memory i) (taskAt s q) n) (length (getD (m .node i .letters (13 + q)) n gap .chain)) (first (getD (m .node i .letters (13 + q)) n gap))))
-        (withNodes m (put (m .node) i (without-letter (m .node i) (13 + q) n)))
+        (withNodes m (put (m .node) i (withoutLetter (m .node i) (13 + q) n)))
     represents-taken =
         let w : List ℕ = takenOut s (R i (13 + q)) 0 n in
         let f = task-take-flag s R (m .node) (rep .core) i q h g ring-of n is (rep .formed .still i h) in
