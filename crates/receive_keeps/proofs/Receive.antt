@@ -19,6 +19,7 @@ use Rattle.layout.proofs.MemoryRows.{stretch-fits}
 use Rattle.letters.specs.Letter.{onto}
 use Rattle.queues.specs.Moves.{counted}
 use Rattle.tasks.specs.Table.{nodeOf, queueOf, isBound}
+use Rattle.tasks.proofs.Laws.{seat-below}
 use Rattle.taking.specs.declared.Found.{Found}
 use Rattle.taking.specs.declared.Found.the-variants.{At, Nothing}
 use Rattle.taking.specs.Find.{found}
@@ -29,7 +30,6 @@ use Rattle.receive.specs.declared.Received.{Received}
 use Rattle.receive.specs.declared.Received.the-variants.{Done, NotSound, DestinationNotBound, SourceNotBound, NoLetter, NoLetterQueueFull, OutTooShort}
 use Rattle.receive.specs.Take.{Took, filled, inVain, sourceOf, bodyOf, emptied, tookAt, tookBy, took}
 use Rattle.receive.specs.Outcome.{Outcome, collected, receive}
-use Rattle.receive.proofs.Seats.{bound-seat}
 use Rattle.machine.specs.Machine.{Machine}
 use Rattle.machine.specs.Spelled.{machineOf}
 use Rattle.receive_keeps.specs.Receives.{Fixed, NoneAsked, Stays, Receives}
@@ -159,7 +159,7 @@ module _ (memory : List ℕ) (destination source : ℕ) (out : List ℕ) where
       (λ b. rw b
       (split (eqb source 0 || isBound (tableIn memory) source)
       (λ c. rw c
-      (let z = bound-seat (tableIn memory) destination (gives-table memory e) b in
+      (let z = seat-below (tableIn memory) destination (gives-table memory e) b in
       keeps-took memory i q source out e (z .0) (z .1)))
       (λ c. rw c (keeps-same memory i q source out SourceNotBound refl))))
       (λ b. rw b (keeps-same memory i q source out DestinationNotBound refl))))
