@@ -285,7 +285,7 @@ fn list_tasks(memory: &[u32], s: Settings, out: &mut [u32]) -> usize
 }
 
 // List, of a sound memory: a first time with no place to write, for the number of letters, and then into out.
-pub fn list_sound(memory: &[u32], out: &mut [u32]) -> Listed
+fn list_sound(memory: &[u32], out: &mut [u32]) -> Listed
     requires { ⌜ sound (now memory) ≡ true ⌝ }
     ensures { λ r. ⌜ record { answer = r; out = now (out .exit) } ≡ list (now (memory .entry)) (now (out .entry)) ⌝ }
 {
@@ -317,4 +317,14 @@ pub fn number_of(answer: Listed) -> Answer
             third: 0,
         },
     }
+}
+
+// List, for any memory and any out.
+pub fn list(memory: &[u32], out: &mut [u32]) -> Listed
+    ensures { λ r. ⌜ record { answer = r; out = now (out .exit) } ≡ list (now (memory .entry)) (now (out .entry)) ⌝ }
+{
+    if !soundness::is_sound(memory) {
+        return Listed::NotSound;
+    }
+    list_sound(memory, out)
 }

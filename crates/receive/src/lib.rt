@@ -174,7 +174,7 @@ fn is_known(memory: &[u32], source: u32) -> bool
 }
 
 // Receive, on a sound memory.
-pub fn receive_sound(memory: &mut [u32], destination: u32, source: u32, out: &mut [u32]) -> Received
+fn receive_sound(memory: &mut [u32], destination: u32, source: u32, out: &mut [u32]) -> Received
     requires { ⌜ sound (now memory) ≡ true ⌝ }
     ensures { λ r. ⌜ record { answer = r; memory = now (memory .exit); out = now (out .exit) } ≡ receive (now (memory .entry)) destination source (now (out .entry)) ⌝ }
 {
@@ -186,4 +186,14 @@ pub fn receive_sound(memory: &mut [u32], destination: u32, source: u32, out: &mu
         return Received::SourceNotBound;
     }
     collect(memory, i as usize, q as usize, source, out)
+}
+
+// Receive, for any memory, any two task numbers and any out.
+pub fn receive(memory: &mut [u32], destination: u32, source: u32, out: &mut [u32]) -> Received
+    ensures { λ r. ⌜ record { answer = r; memory = now (memory .exit); out = now (out .exit) } ≡ receive (now (memory .entry)) destination source (now (out .entry)) ⌝ }
+{
+    if !soundness::is_sound(memory) {
+        return Received::NotSound;
+    }
+    receive_sound(memory, destination, source, out)
 }
