@@ -4,3 +4,4 @@ pub mod Given
 pub mod Few
 pub mod Outcomes
 pub mod Examples
+pub mod Refused
