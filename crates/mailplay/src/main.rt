@@ -55,6 +55,69 @@ fn play_set_up(memory: &mut [u32], table: &[u32], held: Held, words: [u32; 5]) -
     held
 }
 
+// Kind 2: send.
+fn play_send(memory: &mut [u32], paper: &mut [u32], held: Held, words: [u32; 5]) -> Held
+    requires { ⌜ Fits held ⌝ }
+    requires { ⌜ length (now memory) ≡ 512180 ⌝ }
+    requires { ⌜ length (now paper) ≡ 40000 ⌝ }
+    ensures { λ r. ⌜ Fits r ⌝ }
+{
+    let m = held.memory;
+    let n = words[2] as usize;
+    if 2048 < n {
+        return bad(held);
+    }
+    script::fill(&mut paper[0..n], words[3]);
+    let answer = send::send(&mut memory[0..m], words[0], words[1], &paper[0..n]);
+    script::print_answer(send::number_of(answer));
+    script::print_number(script::sum(&memory[0..m]), b" 0\n");
+    held
+}
+
+// The two sums of a call with an out.
+fn print_sums(memory: &[u32], out: &[u32]) {
+    script::print_number(script::sum(memory), b" ");
+    script::print_number(script::sum(out), b"\n");
+}
+
+// Kind 3: receive.
+fn play_receive(memory: &mut [u32], paper: &mut [u32], held: Held, words: [u32; 5]) -> Held
+    requires { ⌜ Fits held ⌝ }
+    requires { ⌜ length (now memory) ≡ 512180 ⌝ }
+    requires { ⌜ length (now paper) ≡ 40000 ⌝ }
+    ensures { λ r. ⌜ Fits r ⌝ }
+{
+    let m = held.memory;
+    let n = words[2] as usize;
+    if 2048 < n {
+        return bad(held);
+    }
+    script::fill(&mut paper[0..n], words[3]);
+    let answer = receive::receive(&mut memory[0..m], words[0], words[1], &mut paper[0..n]);
+    script::print_answer(receive::number_of(answer));
+    print_sums(&memory[0..m], &paper[0..n]);
+    held
+}
+
+// Kind 5: list.
+fn play_list(memory: &[u32], paper: &mut [u32], held: Held, n: u32, f: u32) -> Held
+    requires { ⌜ Fits held ⌝ }
+    requires { ⌜ length (now memory) ≡ 512180 ⌝ }
+    requires { ⌜ length (now paper) ≡ 40000 ⌝ }
+    ensures { λ r. ⌜ Fits r ⌝ }
+{
+    let m = held.memory;
+    let k = n as usize;
+    if 40000 < k {
+        return bad(held);
+    }
+    script::fill(&mut paper[0..k], f);
+    let answer = listing::list(&memory[0..m], &mut paper[0..k]);
+    script::print_answer(listing::number_of(answer));
+    print_sums(&memory[0..m], &paper[0..k]);
+    held
+}
+
 // Kind 6: another memory.
 fn play_memory(memory: &mut [u32], held: Held, n: u32, f: u32) -> Held
     requires { ⌜ Fits held ⌝ }
@@ -115,17 +178,43 @@ fn count(kind: u32) -> usize
 {
     match kind {
         1 => 5,
-        6 | 8 => 2,
+        2 | 3 => 4,
+        5 | 6 | 8 => 2,
         7 => 1,
         _ => 0,
     }
 }
 
-// One kind with its arguments.
-fn play(memory: &mut [u32], table: &mut [u32], held: Held, kind: u32) -> Held
+// A call, of kinds 1, 2, 3 and 5.
+fn play_call(
+    memory: &mut [u32],
+    table: &[u32],
+    paper: &mut [u32],
+    held: Held,
+    kind: u32,
+    words: [u32; 5],
+) -> Held
     requires { ⌜ Fits held ⌝ }
     requires { ⌜ length (now memory) ≡ 512180 ⌝ }
     requires { ⌜ length (now table) ≡ 1024 ⌝ }
+    requires { ⌜ length (now paper) ≡ 40000 ⌝ }
+    ensures { λ r. ⌜ Fits r ⌝ }
+{
+    match kind {
+        1 => play_set_up(memory, table, held, words),
+        2 => play_send(memory, paper, held, words),
+        3 => play_receive(memory, paper, held, words),
+        5 => play_list(memory, paper, held, words[0], words[1]),
+        _ => bad(held),
+    }
+}
+
+// One kind with its arguments.
+fn play(memory: &mut [u32], table: &mut [u32], paper: &mut [u32], held: Held, kind: u32) -> Held
+    requires { ⌜ Fits held ⌝ }
+    requires { ⌜ length (now memory) ≡ 512180 ⌝ }
+    requires { ⌜ length (now table) ≡ 1024 ⌝ }
+    requires { ⌜ length (now paper) ≡ 40000 ⌝ }
     ensures { λ r. ⌜ Fits r ⌝ }
 {
     let read = script::read_arguments(count(kind));
@@ -134,23 +223,23 @@ fn play(memory: &mut [u32], table: &mut [u32], held: Held, kind: u32) -> Held
     }
     let words = read.words;
     match kind {
-        1 => play_set_up(memory, table, held, words),
         6 => play_memory(memory, held, words[0], words[1]),
         7 => play_table(table, held, words[0]),
         8 => play_word(memory, held, words[0], words[1]),
-        _ => bad(held),
+        _ => play_call(memory, table, paper, held, kind, words),
     }
 }
 
 // The next kind, if there is one.
-fn step(memory: &mut [u32], table: &mut [u32], held: Held) -> Held
+fn step(memory: &mut [u32], table: &mut [u32], paper: &mut [u32], held: Held) -> Held
     requires { ⌜ Fits held ⌝ }
     requires { ⌜ length (now memory) ≡ 512180 ⌝ }
     requires { ⌜ length (now table) ≡ 1024 ⌝ }
+    requires { ⌜ length (now paper) ≡ 40000 ⌝ }
     ensures { λ r. ⌜ Fits r ⌝ }
 {
     match script::read_word() {
-        Read::Word(kind) => play(memory, table, held, kind),
+        Read::Word(kind) => play(memory, table, paper, held, kind),
         Read::End => ended(held),
         Read::Part => bad(held),
     }
@@ -159,6 +248,7 @@ fn step(memory: &mut [u32], table: &mut [u32], held: Held) -> Held
 fn main() {
     let mut memory = [0u32; 512180];
     let mut table = [0u32; 1024];
+    let mut paper = [0u32; 40000];
     let mut held = Held {
         memory: 0,
         table: 0,
@@ -166,7 +256,7 @@ fn main() {
     };
     let mut left = u64::MAX;
     while 0 < left && held.on {
-        held = step(&mut memory, &mut table, held);
+        held = step(&mut memory, &mut table, &mut paper, held);
         left -= 1;
     }
 }
