@@ -3,3 +3,4 @@ pub mod Letter
 pub mod Formed
 pub mod After
 pub mod Refused
+pub mod Done
