@@ -4,3 +4,4 @@ pub mod Formed
 pub mod After
 pub mod Refused
 pub mod Done
+pub mod Send

@@ -5,6 +5,8 @@ use Prim.Native.Nat.{ℕ, _+_, _<_}
 use lib.ListN.{take, drop}
 use Rattle.posting.specs.declared.Goal.{Goal}
 use Rattle.posting.specs.declared.Goal.the-variants.{Task, Node}
+use Rattle.posting.specs.declared.Sent.{Sent}
+use Rattle.posting.specs.declared.Sent.the-variants.{Done, NotSound, SourceNotBound, DestinationNotBound, BodyTooLong, TooFewBlocks, QueueFull}
 use Rattle.machine.specs.Machine.{Letter, Machine}
 use Rattle.moves.specs.Moves.{liveOnes}
 
@@ -44,3 +46,13 @@ pub record Sends (m m′ : Machine) (i p n : ℕ) (words : List ℕ) : Type 0 wh
   pub takes : m′ .node i .free ≡ drop n (m .node i .free)
   -- the other nodes' free lists are the same
   pub free : (k : ℕ) → k < 6 → (k ≡ i → ⊥) → m′ .node k .free ≡ m .node k .free
+
+-- what each answer says of the machine before and after
+abbrev pub Change : Machine → Machine → ℕ → ℕ → List ℕ → Sent → Type 0
+Change m m′ i p words (Done n) = Sends m m′ i p n words
+Change m m′ i p words NotSound = Refuses m m′
+Change m m′ i p words SourceNotBound = Refuses m m′
+Change m m′ i p words DestinationNotBound = Refuses m m′
+Change m m′ i p words BodyTooLong = Refuses m m′
+Change m m′ i p words TooFewBlocks = Refuses m m′
+Change m m′ i p words QueueFull = Refuses m m′

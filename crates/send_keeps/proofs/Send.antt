@@ -1,0 +1,290 @@
+-- A SOUND MEMORY STAYS SOUND THROUGH A SEND, done or refused, and what the send does to the machine. Assumes nothing.
+use mathlib.Core.Path.{_≡_, refl, sym, ap, _∙_, subst}
+use mathlib.Core.Bool.{Bool, true, false}
+use mathlib.Core.List.{List, [], _∷_, _++_}
+use Prim.Native.Nat.{ℕ, zero, suc, _+_, _-_, _*_, _≤_, _<_}
+use native.Mathlib.Nat.{zero-mul}
+use native.Mathlib.Omega.{arith}
+use lib.Dec.{eqb}
+use lib.ListN.{length, getD, drop}
+use borrow.Author.Tests.{leb-true, ne-eqb}
+use Rattle.words.proofs.Lists.{put, put-same, put-other, split, same?}
+use Rattle.settings.specs.declared.Settings.{Settings}
+use Rattle.settings.specs.Range.{InRange}
+use Rattle.layout.specs.Places.{nodeSize, node, withNode, sendAt, taskAt, roomAt}
+use Rattle.tasks.specs.Table.{nodeOf, queueOf, isBound, rightTable}
+use Rattle.tasks.proofs.Laws.{seat-within}
+use Rattle.blocks.specs.Chain.{needs, free}
+use Rattle.blocks.specs.Moves.{enough}
+use Rattle.blocks.specs.Asked.{FreeList}
+use Rattle.letters.proofs.Rows.{needs-enough}
+use Rattle.queues.specs.Queue.{sendKind}
+use Rattle.queues.specs.Moves.{counted, appendAnswer}
+use Rattle.queues.proofs.Items.{FirstLive, live-first}
+use Rattle.gaps.specs.Close.{taskAnswer}
+use Rattle.sound.specs.Reading.{settingsIn, tableIn}
+use Rattle.sound.specs.Queues.{taskOf}
+use Rattle.sound.specs.Sound.{sound}
+use Rattle.sound.proofs.Gives.{gives-free}
+use Rattle.posting.specs.Letter.{letterOf, headerOf}
+use Rattle.posting.specs.Post.{Posted, tookIt, hasRoom, appendedTo, fullOf, putIn, posted}
+use Rattle.posting.proofs.Frames.{post-few, post-full, post-done}
+use Rattle.posting.specs.declared.Goal.{Goal}
+use Rattle.posting.specs.declared.Goal.the-variants.{Task, Node as ToNode}
+use Rattle.posting.specs.declared.Sent.{Sent}
+use Rattle.posting.specs.declared.Sent.the-variants.{Done, SourceNotBound, DestinationNotBound, BodyTooLong, TooFewBlocks, QueueFull}
+use Rattle.send.specs.Outcome.{Outcome, refusedBy, fits, goalOf, postedIn, delivered, send}
+use Rattle.send.proofs.Outcomes.{fits-both, goal-same, goal-other}
+use Rattle.machine.specs.Machine.{Letter, first, firsts, Node, Machine, All}
+use Rattle.machine.specs.Spelled.{nodeFrom, machineOf}
+use Rattle.machine.specs.Represents.{Right, RepresentsAt}
+use Rattle.machine.proofs.Sound.{sound-represents}
+use Rattle.moves.specs.Moves.{moved, freed, liveOnes}
+use Rattle.moves.proofs.Items.{firsts-live, all-live}
+use Rattle.moves.proofs.Queues.{length-counted}
+use Rattle.send_keeps.specs.Sends.{placeOf, newLetter, Stands, Refuses, Sends, Change}
+use Rattle.send_keeps.proofs.Seats.{bound-some, task-is}
+use Rattle.send_keeps.proofs.Letter.{letter-long, right-task, right-send}
+use Rattle.send_keeps.proofs.Formed.{withNodes, Grown, letters-else}
+use Rattle.send_keeps.proofs.After.{new-sound, new-stands, new-free, new-letters}
+use Rattle.send_keeps.proofs.Refused.{stretch-at, room-keeps, task-full-keeps, send-full-keeps}
+use Rattle.send_keeps.proofs.Done.{Appends, at-place, at-rest, at-free, put-keeps, is-grown, send-appends, task-appends}
+
+-- ---- live letters
+live-more : (xs : List Letter) (L : Letter) → (first L ≡ 0 → ⊥) → liveOnes (xs ++ L ∷ []) ≡ liveOnes xs ++ L ∷ []
+unfolding liveOnes
+live-more [] L n = rw (ne-eqb (first L) 0 n)
+live-more (x ∷ xs) L n = split (eqb (first x) 0) (λ e. rw e (live-more xs L n)) (λ e. rw e (ap (λ (l : List Letter). x ∷ l) (live-more xs L n)))
+
+live-twice : (xs : List Letter) → liveOnes (liveOnes xs) ≡ liveOnes xs
+unfolding liveOnes
+live-twice [] = refl
+live-twice (x ∷ xs) = split (eqb (first x) 0) (λ e. rw e (live-twice xs)) (λ e. rw e (rw e (ap (λ (l : List Letter). x ∷ l) (live-twice xs))))
+
+needs-one : (s : Settings) → InRange s → (n : ℕ) → 1 ≤ n → 1 ≤ needs s n
+needs-one s r n h = let e = needs-enough s r n in some (needs s n) (s .b - 1) (omega arith)
+  where
+    some : (k j : ℕ) → 1 ≤ k * j → 1 ≤ k
+    some zero j h = absurd (omega (arith, zero-mul j))
+    some (suc k) j h = omega arith
+
+module _ (memory : List ℕ) (e : sound memory ≡ true) where
+  abbrev s : Settings
+  s = settingsIn memory
+
+  abbrev m : Machine
+  m = machineOf memory
+
+  rep : RepresentsAt (settingsIn memory) memory (machineOf memory)
+  rep = sound-represents memory e
+
+  -- ---- refused
+  same-machine : Refuses m m
+  same-machine =
+      record {
+        stands = record { turn = refl; stage = λ j h. refl; other = λ j h. refl };
+        free = λ k h. refl;
+        letters = λ k p h g. refl;
+      }
+
+  quiet : (i : ℕ) → i < 6 → (l : List ℕ) → length l ≡ nodeSize s → RepresentsAt s (withNode s memory i l) (withNodes m (m .node))
+      → (sound (withNode s memory i l) ≡ true) × Refuses m (machineOf (withNode s memory i l))
+  quiet i h l long r = (
+    new-sound s memory m rep i h l long refl (m .node) r,
+    record {
+      stands = new-stands s memory m rep i h l long refl (m .node) r;
+      free = new-free s memory m rep i h l long refl (m .node) r;
+      letters = new-letters s memory m rep i h l long refl (m .node) r;
+    },
+  )
+
+  module _ (i : ℕ) (h : i < 6) (ws : List ℕ) (five : 1 ≤ length ws) where
+    abbrev l : List ℕ
+    l = node s memory i
+
+    abbrev n : ℕ
+    n = needs s (length ws)
+
+    -- what is said of an outcome
+    abbrev Good : Goal → Outcome → Type 0
+    Good goal o = (sound (o .memory) ≡ true) × Change m (machineOf (o .memory)) i (placeOf goal) ws (o .answer)
+
+    some : 1 ≤ n
+    some = needs-one s (rep .core .range) (length ws) five
+
+    fl : FreeList s l
+    fl = gives-free memory e i h
+
+    same : free s l ≡ m .node i .free
+    unfolding nodeFrom
+    same = refl
+
+    has-blocks : enough s l n ≡ true → n ≤ length (free s l)
+    unfolding enough
+    has-blocks y = leb-true n (length (free s l)) y
+
+    count-long : (a : ℕ) → length (counted l a) ≡ nodeSize s
+    count-long a = length-counted l a ∙ stretch-at s memory m rep i h .long
+
+    -- ---- by the tests on the way
+    by-tests : (goal : Goal)
+        → (enough s l n ≡ true → hasRoom s l goal ≡ true → (sound (withNode s memory i (putIn s l goal ws)) ≡ true) × Sends m (machineOf (withNode s memory i (putIn s l goal ws))) i (placeOf goal) n ws)
+        → (sound (withNode s memory i (counted l (fullOf s goal))) ≡ true) × Refuses m (machineOf (withNode s memory i (counted l (fullOf s goal))))
+        → Good goal (postedIn s memory i goal ws)
+    unfolding postedIn
+    by-tests goal put full =
+        let Q : Posted → Type 0 = λ x. Good goal (record { answer = x .answer; memory = withNode s memory i (x .stretch) }) in
+        split (enough s l n)
+        (λ y. split (hasRoom s l goal)
+        (λ z. subst Q (post-done s l goal ws n refl (putIn s l goal ws) (sym y) (sym z) refl) (put y z))
+        (λ z. subst Q (post-full s l goal ws n refl (counted l (fullOf s goal)) (sym y) (sym z) refl) full))
+        (λ y. subst Q (post-few s l goal ws n refl (counted l 1) (sym y) refl) (quiet i h (counted l 1) (count-long 1) (room-keeps s memory m rep i h)))
+
+    -- ---- done
+    module _ (has : needs s (length ws) ≤ length (free s (node s memory i))) (p : ℕ) (lo : 1 ≤ p) (hi : p < 77) (l₃ w : List ℕ) (kept : List Letter)
+        (a : Appends s memory m rep i h fl ws some has same p l₃ w kept) (live : liveOnes kept ≡ liveOnes (m .node i .letters p)) where
+      abbrev L : Letter
+      L = newLetter (m .node i .free) n ws
+
+      abbrev Y : Node
+      Y = moved (freed (m .node i) (drop n (m .node i .free)) (L ∷ [])) p (kept ++ L ∷ []) []
+
+      grown-sends : Grown (tableIn memory) m i p kept L Y → (sound (withNode s memory i l₃) ≡ true) × Sends m (machineOf (withNode s memory i l₃)) i p n ws
+      grown-sends g =
+          let N′ : ℕ → Node = put (m .node) i Y in
+          let r : RepresentsAt s (withNode s memory i l₃) (withNodes m (put (m .node) i Y)) = put-keeps s memory m rep i h fl ws some has same p lo hi l₃ w kept a g in
+          let at : machineOf (withNode s memory i l₃) .node i .letters p ≡ kept ++ L ∷ [] =
+          new-letters s memory m rep i h l₃ (a .long) refl N′ r i p h (omega arith) ∙ ap (λ (Z : Node). Z .letters p) (put-same (m .node) i Y) ∙ g .at in (
+            new-sound s memory m rep i h l₃ (a .long) refl N′ r,
+            record {
+              stands = new-stands s memory m rep i h l₃ (a .long) refl N′ r;
+              behind = ap liveOnes at ∙ live-more kept L (g .block) ∙ ap (λ (x : List Letter). x ++ L ∷ []) live;
+              sent = λ z. at ∙ ap (λ (x : List Letter). x ++ L ∷ []) (g .whole z);
+              elsewhere = λ k q c d ne. new-letters s memory m rep i h l₃ (a .long) refl N′ r k q c d ∙ letters-else (tableIn memory) m (rep .formed) i p kept L Y g k q d ne;
+              takes = new-free s memory m rep i h l₃ (a .long) refl N′ r i h ∙ ap (λ (Z : Node). Z .free) (put-same (m .node) i Y)
+                  ∙ at-free s memory m rep i h fl ws some has same p lo hi l₃ w kept a;
+              free = λ k c ne. new-free s memory m rep i h l₃ (a .long) refl N′ r k c ∙ ap (λ (Z : Node). Z .free) (put-other (m .node) i Y k ne);
+            },
+          )
+
+    -- ---- to a send queue
+    module _ (k : ℕ) (g : k < 6) (away : i ≡ k → ⊥) (right : Right (tableIn memory) i (1 + k) ws) where
+      sent : enough s l n ≡ true → hasRoom s l (ToNode k) ≡ true → (sound (withNode s memory i (putIn s l (ToNode k) ws)) ≡ true) × Sends m (machineOf (withNode s memory i (putIn s l (ToNode k) ws))) i (1 + k) n ws
+      unfolding hasRoom appendedTo putIn
+      sent y room =
+          let has = has-blocks y in
+          let a = send-appends s memory m rep i h fl ws some has same k g room in
+          grown-sends has (1 + k) (omega arith) (omega arith) _ _ (m .node i .letters (1 + k)) a refl
+          (is-grown s memory m rep i h fl ws some has same (1 + k) (omega arith) (omega arith) _ _ (m .node i .letters (1 + k)) a
+          right (λ P x. x) (λ z. absurd (omega arith)) (λ z. refl) (λ z. away (omega arith)) (λ z. omega arith) (λ q z t. omega arith))
+
+      send-full : (sound (withNode s memory i (counted l (fullOf s (ToNode k)))) ≡ true) × Refuses m (machineOf (withNode s memory i (counted l (fullOf s (ToNode k)))))
+      unfolding fullOf
+      send-full = quiet i h (counted l (sendAt s k + 2)) (count-long (sendAt s k + 2)) (send-full-keeps s memory m rep i h k g)
+
+      to-node : Good (ToNode k) (postedIn s memory i (ToNode k) ws)
+      to-node = by-tests (ToNode k) sent send-full
+
+    -- ---- to a task queue
+    module _ (q : ℕ) (g : q < 64) (bound : taskOf (tableIn memory) i q ≡ 0 → ⊥) (right : Right (tableIn memory) i (13 + q) ws) where
+      kept : enough s l n ≡ true → hasRoom s l (Task q) ≡ true → (sound (withNode s memory i (putIn s l (Task q) ws)) ≡ true) × Sends m (machineOf (withNode s memory i (putIn s l (Task q) ws))) i (13 + q) n ws
+      unfolding hasRoom appendedTo putIn
+      kept y room =
+          let has = has-blocks y in
+          let ls : List Letter = m .node i .letters (13 + q) in
+          let none : (x : ℕ) → 13 + q ≡ 13 + x → taskOf (tableIn memory) i x ≡ 0 → ⊥ =
+          λ x z t. bound (let d : q ≡ x = omega arith in rw d t) in
+          task-appends s memory m rep i h fl ws some has same q g room
+          (λ a.
+          grown-sends has (13 + q) (omega arith) (omega arith) _ _ ls a refl
+          (is-grown s memory m rep i h fl ws some has same (13 + q) (omega arith) (omega arith) _ _ ls a
+          right (λ P x. x) (λ z. rep .formed .fronts i q h g) (λ z. absurd (omega arith)) (λ z. omega arith) (λ z. omega arith) none))
+          (λ a.
+          grown-sends has (13 + q) (omega arith) (omega arith) _ _ (liveOnes ls) a (live-twice ls)
+          (is-grown s memory m rep i h fl ws some has same (13 + q) (omega arith) (omega arith) _ _ (liveOnes ls) a
+          right (λ P x. all-live P ls x) (λ z. rw (firsts-live ls) (live-first (firsts ls))) (λ z. absurd (omega arith)) (λ z. omega arith) (λ z. omega arith) none))
+
+      task-full : (sound (withNode s memory i (counted l (fullOf s (Task q)))) ≡ true) × Refuses m (machineOf (withNode s memory i (counted l (fullOf s (Task q)))))
+      unfolding fullOf
+      task-full = quiet i h (counted l (taskAt s q + 3)) (count-long (taskAt s q + 3)) (task-full-keeps s memory m rep i h q g)
+
+      to-task : Good (Task q) (postedIn s memory i (Task q) ws)
+      to-task = by-tests (Task q) kept task-full
+
+  -- ---- the whole send
+  module _ (source destination : ℕ) (body : List ℕ) where
+    abbrev table : List ℕ
+    table = tableIn memory
+
+    abbrev from : ℕ
+    from = nodeOf (tableIn memory) source
+
+    abbrev to : ℕ
+    to = nodeOf (tableIn memory) destination
+
+    abbrev queue : ℕ
+    queue = queueOf (tableIn memory) destination
+
+    abbrev words : List ℕ
+    words = letterOf (headerOf (tableIn memory) source destination) body
+
+    abbrev goal : Goal
+    goal = goalOf (nodeOf (tableIn memory) source) (nodeOf (tableIn memory) destination) (queueOf (tableIn memory) destination)
+
+    -- what is said of the outcome
+    abbrev Holds : Outcome → Type 0
+    Holds o = (sound (o .memory) ≡ true) × Change m (machineOf (o .memory)) from (placeOf goal) words (o .answer)
+
+    deliver : isBound table source ≡ true → isBound table destination ≡ true → true ≡ fits s (length body) → Holds (postedIn s memory from goal words)
+    deliver bs bd ft =
+        let short = fits-both s (length body) ft .0 in
+        let hs = seat-within table source (rep .table) bs in
+        let hd = seat-within table destination (rep .table) bd in
+        let hi : from < 6 = omega arith in
+        let five : 1 ≤ length words = omega (arith, letter-long table source destination body) in
+        same? from to
+        (λ q t.
+        subst (λ (x : Goal). Good from hi words five x (postedIn s memory from x words)) (goal-same from to queue q)
+        (to-task from hi words five queue (omega arith)
+        (λ z. bound-some table (rep .table) destination bd (sym (task-is table (rep .table) destination bd) ∙ ap (λ (x : ℕ). taskOf table x queue) (sym q) ∙ z))
+        (right-task table (rep .table) source destination bs bd body short q (omega arith))))
+        (λ q t.
+        subst (λ (x : Goal). Good from hi words five x (postedIn s memory from x words)) (goal-other from to queue q)
+        (to-node from hi words five to (omega arith) q (right-send table (rep .table) source destination bs bd body short (omega arith))))
+
+    -- the outcome, by the tests on the way
+    is-delivered : isBound table source ≡ true → isBound table destination ≡ true → fits s (length body) ≡ true → send memory source destination body ≡ postedIn s memory from goal words
+    unfolding send delivered
+    is-delivered bs bd ft = rw (e, bs, bd, ft)
+
+    is-long : isBound table source ≡ true → isBound table destination ≡ true → fits s (length body) ≡ false → send memory source destination body ≡ refusedBy BodyTooLong memory
+    unfolding send
+    is-long bs bd ft = rw (e, bs, bd, ft)
+
+    is-other : isBound table source ≡ true → isBound table destination ≡ false → send memory source destination body ≡ refusedBy DestinationNotBound memory
+    unfolding send
+    is-other bs bd = rw (e, bs, bd)
+
+    is-first : isBound table source ≡ false → send memory source destination body ≡ refusedBy SourceNotBound memory
+    unfolding send
+    is-first bs = rw (e, bs)
+
+    holds : Holds (send memory source destination body)
+    holds =
+        split (isBound table source)
+        (λ bs. split (isBound table destination)
+        (λ bd. split (fits s (length body))
+        (λ ft. subst Holds (sym (is-delivered bs bd ft)) (deliver bs bd (sym ft)))
+        (λ ft. subst Holds (sym (is-long bs bd ft)) (e, same-machine)))
+        (λ bd. subst Holds (sym (is-other bs bd)) (e, same-machine)))
+        (λ bs. subst Holds (sym (is-first bs)) (e, same-machine))
+
+    -- WHAT A SEND DOES TO THE MACHINE
+    pub send-changes : Change (machineOf memory) (machineOf (send memory source destination body .memory)) (nodeOf (tableIn memory) source)
+        (placeOf (goalOf (nodeOf (tableIn memory) source) (nodeOf (tableIn memory) destination) (queueOf (tableIn memory) destination)))
+        (letterOf (headerOf (tableIn memory) source destination) body) (send memory source destination body .answer)
+    send-changes = holds .1
+
+-- A SOUND MEMORY STAYS SOUND
+pub send-sound : (memory : List ℕ) (source destination : ℕ) (body : List ℕ) → sound memory ≡ true → sound (send memory source destination body .memory) ≡ true
+send-sound memory source destination body e = holds memory e source destination body .0
