@@ -13,7 +13,6 @@ use Rattle.layout.specs.Places.{nodeSize, node, withNode, sendAt, taskAt, roomA
 use Rattle.layout.specs.Rows.{width}
 use Rattle.layout.specs.Asked.{Stretch}
 use Rattle.layout.proofs.NodeRows.{width-head, start-send, start-task}
-use Rattle.letters.proofs.Copies.{node-stretch}
 use Rattle.queues.specs.Queue.{sendKind, taskKind}
 use Rattle.queues.specs.Moves.{counted}
 use Rattle.queues.proofs.InRow.{room-send, room-task, but-counted}
@@ -22,7 +21,8 @@ use Rattle.queues.proofs.Tasks.{TaskRing, task-counted}
 use Rattle.machine.specs.Machine.{Letter, firsts, Node, Machine}
 use Rattle.machine.specs.Core.{rowsOf, seat, line, kind, Core}
 use Rattle.machine.specs.Represents.{RepresentsAt}
-use Rattle.machine.proofs.Places.{seat-send, line-send, kind-send, seat-task, line-task, kind-task}
+use Rattle.machine.proofs.Places.{seat-send, line-send, kind-send}
+use Rattle.machine.proofs.Gives.{gives-stretch, gives-row}
 use Rattle.moves.specs.Moves.{putRow}
 use Rattle.moves.proofs.Rows.{row-same, row-other, row-node}
 use Rattle.moves.proofs.Core.{word-put}
@@ -39,19 +39,14 @@ module _ (s : Settings) (memory : List ℕ) (m : Machine) (rep : RepresentsAt s 
   abbrev o : List ℕ
   o = node s memory i
 
-  pub stretch-at : Stretch s (node s memory i)
-  stretch-at = node-stretch s memory (record { range = rep .core .range; long = rep .size }) i h
+  stretch : Stretch s (node s memory i)
+  stretch = gives-stretch s memory (rep .size) (m .node) (rep .core) i h
 
-  pub send-ring : (k : ℕ) → k < 6 → Ring (sendKind s) (rowsOf s memory i (1 + k)) 0 (firsts (m .node i .letters (1 + k)))
+  send-ring : (k : ℕ) → k < 6 → Ring (sendKind s) (R i (1 + k)) 0 (firsts (m .node i .letters (1 + k)))
   send-ring k g = rw (kind-send s k g, seat-send i k g, line-send i k g) at (rep .core .queues i (1 + k) h (omega arith) (omega arith))
 
-  pub task-ring : (q : ℕ) → q < 64 → TaskRing s (rowsOf s memory i (13 + q)) 0 (firsts (m .node i .letters (13 + q)))
-  task-ring q g =
-      record {
-        ring = rw (kind-task s q g, seat-task i q g, line-task i q g) at (rep .core .queues i (13 + q) h (omega arith) (omega arith));
-        first = rep .formed .fronts i q h g;
-        flag = rep .shows .flags i q h g;
-      }
+  task-ring : (q : ℕ) → q < 64 → TaskRing s (R i (13 + q)) 0 (firsts (m .node i .letters (13 + q)))
+  task-ring q g = gives-row s memory (rep .size) (m .node) (rep .core) i q h g (rep .shows .flags i q h g) (rep .formed .fronts i q h g)
 
   -- one row anew, in which the flag, if it has one, is the same
   module _ (l : List ℕ) (long : length l ≡ nodeSize s) (r : ℕ) (w : List ℕ) (row : rowsOf s (withNode s memory i l) ≡ putRow (rowsOf s memory) i r w) (flag : 13 ≤ r → getD w 2 0 ≡ getD (rowsOf s memory i r) 2 0)
@@ -75,18 +70,18 @@ module _ (s : Settings) (memory : List ℕ) (m : Machine) (rep : RepresentsAt s 
   unfolding counted wordRows.start
   room-row =
       let v : ℕ = more (getD o 1 0) in
-      row-with s memory (rep .size) i h (set o 1 v) (length-set o 1 v ∙ stretch-at .long) 0 (set (R i 0) (0 + 1) v)
+      row-with s memory (rep .size) i h (set o 1 v) (length-set o 1 v ∙ stretch .long) 0 (set (R i 0) (0 + 1) v)
       (but-set (width s) o 0 (but-none (width s) o 0) 1 (rw (width-head s) (omega arith)) v)
 
   pub room-keeps : RepresentsAt s (withNode s memory i (counted (node s memory i) roomAt)) (withNodes m (m .node))
   room-keeps =
-      row-keeps (counted o 1) (length-counted o 1 ∙ stretch-at .long) 0 (set (R i 0) (0 + 1) (more (getD o 1 0))) room-row (λ z. absurd (omega arith))
+      row-keeps (counted o 1) (length-counted o 1 ∙ stretch .long) 0 (set (R i 0) (0 + 1) (more (getD o 1 0))) room-row (λ z. absurd (omega arith))
       (room-words s memory (rep .size) (m .node) (rep .core) i h)
 
   -- 6: THE FULL COUNT of a task queue
   pub task-full-keeps : (q : ℕ) → q < 64 → RepresentsAt s (withNode s memory i (counted (node s memory i) (taskAt s q + taskFullWord))) (withNodes m (m .node))
   task-full-keeps q g =
-      row-keeps (counted o (taskAt s q + 3)) (length-counted o (taskAt s q + 3) ∙ stretch-at .long) (13 + q) (counted (R i (13 + q)) (0 + 3)) row
+      row-keeps (counted o (taskAt s q + 3)) (length-counted o (taskAt s q + 3) ∙ stretch .long) (13 + q) (counted (R i (13 + q)) (0 + 3)) row
       (λ z. t .flag ∙ sym (task-ring q g .flag))
       (subst (λ (Q : ℕ → ℕ → List ℕ). Core s Q (m .node)) (sym row)
       (task-word s R (m .node) (rep .core) i q h g (counted (R i (13 + q)) (0 + 3)) (length-counted (R i (13 + q)) (0 + 3)) (t .ring)))
@@ -98,13 +93,13 @@ module _ (s : Settings) (memory : List ℕ) (m : Machine) (rep : RepresentsAt s 
       row =
           let at : ℕ = wordRows.start (width s) (13 + q) in
           ap (λ (a : ℕ). rowsOf s (withNode s memory i (counted o (a + 3)))) (sym (start-task s q (omega arith)))
-          ∙ row-with s memory (rep .size) i h (counted o (at + 3)) (length-counted o (at + 3) ∙ stretch-at .long) (13 + q) (counted (R i (13 + q)) (0 + 3))
+          ∙ row-with s memory (rep .size) i h (counted o (at + 3)) (length-counted o (at + 3) ∙ stretch .long) (13 + q) (counted (R i (13 + q)) (0 + 3))
           (but-counted (width s) o (13 + q) (taskKind s) (room-task s (rep .core .range) (13 + q) (omega arith) (omega arith)) (but-none (width s) o (13 + q)) 3 (omega arith))
 
   -- and of a send queue
   pub send-full-keeps : (k : ℕ) → k < 6 → RepresentsAt s (withNode s memory i (counted (node s memory i) (sendAt s k + fullWord))) (withNodes m (m .node))
   send-full-keeps k g =
-      row-keeps (counted o (sendAt s k + 2)) (length-counted o (sendAt s k + 2) ∙ stretch-at .long) (1 + k) (counted (R i (1 + k)) (0 + 2)) row
+      row-keeps (counted o (sendAt s k + 2)) (length-counted o (sendAt s k + 2) ∙ stretch .long) (1 + k) (counted (R i (1 + k)) (0 + 2)) row
       (λ z. absurd (omega arith))
       (subst (λ (Q : ℕ → ℕ → List ℕ). Core s Q (m .node)) (sym row) core)
     where
@@ -121,5 +116,5 @@ module _ (s : Settings) (memory : List ℕ) (m : Machine) (rep : RepresentsAt s 
       row =
           let at : ℕ = wordRows.start (width s) (1 + k) in
           ap (λ (a : ℕ). rowsOf s (withNode s memory i (counted o (a + 2)))) (sym (start-send s k (omega arith)))
-          ∙ row-with s memory (rep .size) i h (counted o (at + 2)) (length-counted o (at + 2) ∙ stretch-at .long) (1 + k) (counted (R i (1 + k)) (0 + 2))
+          ∙ row-with s memory (rep .size) i h (counted o (at + 2)) (length-counted o (at + 2) ∙ stretch .long) (1 + k) (counted (R i (1 + k)) (0 + 2))
           (but-counted (width s) o (1 + k) (sendKind s) (room-send s (rep .core .range) (1 + k) (omega arith) (omega arith)) (but-none (width s) o (1 + k)) 2 (omega arith))

@@ -6,7 +6,7 @@ use Prim.Native.Nat.{ℕ, zero, suc, _+_, _-_, _*_, _≤_, _<_}
 use native.Mathlib.Nat.{zero-mul}
 use native.Mathlib.Omega.{arith}
 use lib.Dec.{eqb}
-use lib.ListN.{length, getD, drop}
+use lib.ListN.{length, getD}
 use borrow.Author.Tests.{leb-true, ne-eqb}
 use Rattle.words.proofs.Lists.{put, put-same, put-other, split, same?}
 use Rattle.settings.specs.declared.Settings.{Settings}
@@ -16,7 +16,6 @@ use Rattle.tasks.specs.Table.{nodeOf, queueOf, isBound, rightTable}
 use Rattle.tasks.proofs.Laws.{seat-within}
 use Rattle.blocks.specs.Chain.{needs, free}
 use Rattle.blocks.specs.Moves.{enough}
-use Rattle.blocks.specs.Asked.{FreeList}
 use Rattle.letters.proofs.Rows.{needs-enough}
 use Rattle.queues.specs.Queue.{sendKind}
 use Rattle.queues.specs.Moves.{counted, appendAnswer}
@@ -25,7 +24,6 @@ use Rattle.gaps.specs.Close.{taskAnswer}
 use Rattle.sound.specs.Reading.{settingsIn, tableIn}
 use Rattle.sound.specs.Queues.{taskOf}
 use Rattle.sound.specs.Sound.{sound}
-use Rattle.sound.proofs.Gives.{gives-free}
 use Rattle.posting.specs.Letter.{letterOf, headerOf}
 use Rattle.posting.specs.Post.{Posted, tookIt, hasRoom, appendedTo, fullOf, putIn, posted}
 use Rattle.posting.proofs.Frames.{post-few, post-full, post-done}
@@ -39,7 +37,8 @@ use Rattle.machine.specs.Machine.{Letter, first, firsts, Node, Machine, All}
 use Rattle.machine.specs.Spelled.{nodeFrom, machineOf}
 use Rattle.machine.specs.Represents.{Right, RepresentsAt}
 use Rattle.machine.proofs.Sound.{sound-represents}
-use Rattle.moves.specs.Moves.{moved, freed, liveOnes}
+use Rattle.machine.proofs.Gives.{gives-stretch}
+use Rattle.moves.specs.Moves.{liveOnes}
 use Rattle.moves.proofs.Items.{firsts-live, all-live}
 use Rattle.moves.proofs.Queues.{length-counted}
 use Rattle.send_keeps.specs.Sends.{placeOf, newLetter, Stands, Refuses, Sends, Change}
@@ -47,8 +46,8 @@ use Rattle.send_keeps.proofs.Seats.{bound-some, task-is}
 use Rattle.send_keeps.proofs.Letter.{letter-long, right-task, right-send}
 use Rattle.send_keeps.proofs.Formed.{withNodes, Grown, letters-else}
 use Rattle.send_keeps.proofs.After.{new-sound, new-stands, new-free, new-letters}
-use Rattle.send_keeps.proofs.Refused.{stretch-at, room-keeps, task-full-keeps, send-full-keeps}
-use Rattle.send_keeps.proofs.Done.{Appends, at-place, at-rest, at-free, put-keeps, is-grown, send-appends, task-appends}
+use Rattle.send_keeps.proofs.Refused.{room-keeps, task-full-keeps, send-full-keeps}
+use Rattle.send_keeps.proofs.Done.{grownBy, Appends, at-free, put-keeps, is-grown, send-appends, task-appends}
 
 -- ---- live letters
 live-more : (xs : List Letter) (L : Letter) → (first L ≡ 0 → ⊥) → liveOnes (xs ++ L ∷ []) ≡ liveOnes xs ++ L ∷ []
@@ -112,19 +111,12 @@ module _ (memory : List ℕ) (e : sound memory ≡ true) where
     some : 1 ≤ n
     some = needs-one s (rep .core .range) (length ws) five
 
-    fl : FreeList s l
-    fl = gives-free memory e i h
-
-    same : free s l ≡ m .node i .free
-    unfolding nodeFrom
-    same = refl
-
-    has-blocks : enough s l n ≡ true → n ≤ length (free s l)
-    unfolding enough
+    has-blocks : enough s l n ≡ true → n ≤ length (m .node i .free)
+    unfolding enough nodeFrom
     has-blocks y = leb-true n (length (free s l)) y
 
     count-long : (a : ℕ) → length (counted l a) ≡ nodeSize s
-    count-long a = length-counted l a ∙ stretch-at s memory m rep i h .long
+    count-long a = length-counted l a ∙ gives-stretch s memory (rep .size) (m .node) (rep .core) i h .long
 
     -- ---- by the tests on the way
     by-tests : (goal : Goal)
@@ -141,18 +133,18 @@ module _ (memory : List ℕ) (e : sound memory ≡ true) where
         (λ y. subst Q (post-few s l goal ws n refl (counted l 1) (sym y) refl) (quiet i h (counted l 1) (count-long 1) (room-keeps s memory m rep i h)))
 
     -- ---- done
-    module _ (has : needs s (length ws) ≤ length (free s (node s memory i))) (p : ℕ) (lo : 1 ≤ p) (hi : p < 77) (l₃ w : List ℕ) (kept : List Letter)
-        (a : Appends s memory m rep i h fl ws some has same p l₃ w kept) (live : liveOnes kept ≡ liveOnes (m .node i .letters p)) where
+    module _ (has : needs s (length ws) ≤ length (m .node i .free)) (p : ℕ) (lo : 1 ≤ p) (hi : p < 77) (l₃ w : List ℕ) (kept : List Letter)
+        (a : Appends s memory m rep i h ws some has p l₃ w kept) (live : liveOnes kept ≡ liveOnes (m .node i .letters p)) where
       abbrev L : Letter
       L = newLetter (m .node i .free) n ws
 
       abbrev Y : Node
-      Y = moved (freed (m .node i) (drop n (m .node i .free)) (L ∷ [])) p (kept ++ L ∷ []) []
+      Y = grownBy s (m .node i) p kept ws
 
       grown-sends : Grown (tableIn memory) m i p kept L Y → (sound (withNode s memory i l₃) ≡ true) × Sends m (machineOf (withNode s memory i l₃)) i p n ws
       grown-sends g =
           let N′ : ℕ → Node = put (m .node) i Y in
-          let r : RepresentsAt s (withNode s memory i l₃) (withNodes m (put (m .node) i Y)) = put-keeps s memory m rep i h fl ws some has same p lo hi l₃ w kept a g in
+          let r : RepresentsAt s (withNode s memory i l₃) (withNodes m (put (m .node) i Y)) = put-keeps s memory m rep i h ws some has p lo hi l₃ w kept a g in
           let at : machineOf (withNode s memory i l₃) .node i .letters p ≡ kept ++ L ∷ [] =
           new-letters s memory m rep i h l₃ (a .long) refl N′ r i p h (omega arith) ∙ ap (λ (Z : Node). Z .letters p) (put-same (m .node) i Y) ∙ g .at in (
             new-sound s memory m rep i h l₃ (a .long) refl N′ r,
@@ -162,7 +154,7 @@ module _ (memory : List ℕ) (e : sound memory ≡ true) where
               sent = λ z. at ∙ ap (λ (x : List Letter). x ++ L ∷ []) (g .whole z);
               elsewhere = λ k q c d ne. new-letters s memory m rep i h l₃ (a .long) refl N′ r k q c d ∙ letters-else (tableIn memory) m (rep .formed) i p kept L Y g k q d ne;
               takes = new-free s memory m rep i h l₃ (a .long) refl N′ r i h ∙ ap (λ (Z : Node). Z .free) (put-same (m .node) i Y)
-                  ∙ at-free s memory m rep i h fl ws some has same p lo hi l₃ w kept a;
+                  ∙ at-free s memory m rep i h ws some has p lo hi l₃ w kept a;
               free = λ k c ne. new-free s memory m rep i h l₃ (a .long) refl N′ r k c ∙ ap (λ (Z : Node). Z .free) (put-other (m .node) i Y k ne);
             },
           )
@@ -173,9 +165,9 @@ module _ (memory : List ℕ) (e : sound memory ≡ true) where
       unfolding hasRoom appendedTo putIn
       sent y room =
           let has = has-blocks y in
-          let a = send-appends s memory m rep i h fl ws some has same k g room in
+          let a = send-appends s memory m rep i h ws some has k g room in
           grown-sends has (1 + k) (omega arith) (omega arith) _ _ (m .node i .letters (1 + k)) a refl
-          (is-grown s memory m rep i h fl ws some has same (1 + k) (omega arith) (omega arith) _ _ (m .node i .letters (1 + k)) a
+          (is-grown s memory m rep i h ws some has (1 + k) (omega arith) (omega arith) _ _ (m .node i .letters (1 + k)) a
           right (λ P x. x) (λ z. absurd (omega arith)) (λ z. refl) (λ z. away (omega arith)) (λ z. omega arith) (λ q z t. omega arith))
 
       send-full : (sound (withNode s memory i (counted l (fullOf s (ToNode k)))) ≡ true) × Refuses m (machineOf (withNode s memory i (counted l (fullOf s (ToNode k)))))
@@ -194,14 +186,14 @@ module _ (memory : List ℕ) (e : sound memory ≡ true) where
           let ls : List Letter = m .node i .letters (13 + q) in
           let none : (x : ℕ) → 13 + q ≡ 13 + x → taskOf (tableIn memory) i x ≡ 0 → ⊥ =
           λ x z t. bound (let d : q ≡ x = omega arith in rw d t) in
-          task-appends s memory m rep i h fl ws some has same q g room
+          task-appends s memory m rep i h ws some has q g room
           (λ a.
           grown-sends has (13 + q) (omega arith) (omega arith) _ _ ls a refl
-          (is-grown s memory m rep i h fl ws some has same (13 + q) (omega arith) (omega arith) _ _ ls a
+          (is-grown s memory m rep i h ws some has (13 + q) (omega arith) (omega arith) _ _ ls a
           right (λ P x. x) (λ z. rep .formed .fronts i q h g) (λ z. absurd (omega arith)) (λ z. omega arith) (λ z. omega arith) none))
           (λ a.
           grown-sends has (13 + q) (omega arith) (omega arith) _ _ (liveOnes ls) a (live-twice ls)
-          (is-grown s memory m rep i h fl ws some has same (13 + q) (omega arith) (omega arith) _ _ (liveOnes ls) a
+          (is-grown s memory m rep i h ws some has (13 + q) (omega arith) (omega arith) _ _ (liveOnes ls) a
           right (λ P x. all-live P ls x) (λ z. rw (firsts-live ls) (live-first (firsts ls))) (λ z. absurd (omega arith)) (λ z. omega arith) (λ z. omega arith) none))
 
       task-full : (sound (withNode s memory i (counted l (fullOf s (Task q)))) ≡ true) × Refuses m (machineOf (withNode s memory i (counted l (fullOf s (Task q)))))
