@@ -1,20 +1,20 @@
 -- A memory with one node's stretch put anew represents a machine with the same turn and positions: it is sound, and spells that machine. Assumes nothing.
-use mathlib.Core.Path.{_≡_, refl, sym, ap, _∙_, subst}
+use mathlib.Core.Path.{_≡_, sym, ap, _∙_, subst}
 use mathlib.Core.Bool.{true}
 use mathlib.Core.List.{List}
-use Prim.Native.Nat.{ℕ, _+_, _*_, _≤_, _<_}
+use Prim.Native.Nat.{ℕ, _+_, _*_, _<_}
 use native.Mathlib.Omega.{arith}
 use lib.ListN.{length, getD}
 use Rattle.settings.specs.declared.Settings.{Settings}
 use Rattle.layout.specs.Places.{nodeSize, gapWord, withNode}
 use Rattle.tasks.specs.Table.{rightTable}
 use Rattle.queues.specs.Items.{gapFlag}
-use Rattle.sound.specs.Reading.{settingsIn, tableIn, stageOf, otherOf, heldOf}
+use Rattle.sound.specs.Reading.{settingsIn, tableIn}
 use Rattle.sound.specs.Sound.{sound}
 use Rattle.machine.specs.Machine.{Letter, firsts, Node, Machine}
 use Rattle.machine.specs.Spelled.{machineOf}
 use Rattle.machine.specs.Core.{rowsOf, Core}
-use Rattle.machine.specs.Represents.{WellFormed, Shows, RepresentsAt, Represents}
+use Rattle.machine.specs.Represents.{WellFormed, RepresentsAt, Represents}
 use Rattle.machine.proofs.Back.{represents-sound-at, same-turn, same-stage, same-other, same-free, same-letters}
 use Rattle.moves.proofs.Memory.{with-long, with-word, with-settings, with-table}
 use Rattle.send_keeps.specs.Sends.{Stands}

@@ -2,12 +2,11 @@
 --     send-appends, task-appends     by the queue to which the letter goes
 --     put-keeps     the memory after it represents the machine after it
 use mathlib.Core.Path.{_≡_, refl, sym, ap, ap₂, _∙_}
-use mathlib.Core.Bool.{true, false, false≢true}
+use mathlib.Core.Bool.{true, false≢true}
 use mathlib.Core.List.{List, [], _∷_, _++_}
 use Prim.Native.Nat.{ℕ, zero, suc, _+_, _≤_, _<_}
 use native.Mathlib.Omega.{arith}
-use lib.Dec.{eqb}
-use lib.ListN.{length, getD, take, drop}
+use lib.ListN.{length, getD, drop}
 use lib.Seq.{getD-take, length-take-le}
 use borrow.Author.Tests.{ltb-true}
 use Rattle.words.proofs.Lists.{put, put-same, put-other, same?}

@@ -1,10 +1,10 @@
 -- A well-formed machine with one letter more at the end of a send or task queue is well formed. Assumes nothing.
 use mathlib.Core.Path.{_≡_, refl, sym, ap, _∙_, subst}
 use mathlib.Core.List.{List, [], _∷_, _++_, map}
-use Prim.Native.Nat.{ℕ, zero, suc, _+_, _-_, _≤_, _<_}
+use Prim.Native.Nat.{ℕ, _+_, _-_, _≤_, _<_}
 use native.Mathlib.Omega.{arith}
-use lib.ListN.{length, getD, take}
-use Rattle.words.proofs.Lists.{put, put-same, put-other, same?}
+use lib.ListN.{length, take}
+use Rattle.words.proofs.Lists.{put, put-same, same?}
 use Rattle.queues.proofs.Items.{FirstLive}
 use Rattle.sound.specs.Queues.{taskOf}
 use Rattle.machine.specs.Machine.{Letter, first, firsts, Live, wordsOf, Node, Machine, All}

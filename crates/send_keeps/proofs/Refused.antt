@@ -7,7 +7,7 @@ use lib.ListN.{length, getD, set, length-set}
 use Rattle.words.specs.Words.{more}
 use Rattle.words.specs.Rows as wordRows
 use Rattle.words.proofs.Lists.{same?}
-use Rattle.words.proofs.Rows.{But, but-none, but-set}
+use Rattle.words.proofs.Rows.{but-none, but-set}
 use Rattle.settings.specs.declared.Settings.{Settings}
 use Rattle.layout.specs.Places.{nodeSize, node, withNode, sendAt, taskAt, roomAt, taskFullWord, fullWord}
 use Rattle.layout.specs.Rows.{width}
@@ -18,8 +18,8 @@ use Rattle.queues.specs.Moves.{counted}
 use Rattle.queues.proofs.InRow.{room-send, room-task, but-counted}
 use Rattle.queues.proofs.Ring.{Ring, ring-counted}
 use Rattle.queues.proofs.Tasks.{TaskRing, task-counted}
-use Rattle.machine.specs.Machine.{Letter, firsts, Node, Machine}
-use Rattle.machine.specs.Core.{rowsOf, seat, line, kind, Core}
+use Rattle.machine.specs.Machine.{firsts, Machine}
+use Rattle.machine.specs.Core.{rowsOf, Core}
 use Rattle.machine.specs.Represents.{RepresentsAt}
 use Rattle.machine.proofs.Places.{seat-send, line-send, kind-send}
 use Rattle.machine.proofs.Gives.{gives-stretch, gives-row}
@@ -30,7 +30,7 @@ use Rattle.moves.proofs.Queues.{length-counted, task-word}
 use Rattle.moves.proofs.Memory.{row-with}
 use Rattle.moves.proofs.Words.{room-words}
 use Rattle.send_keeps.proofs.Formed.{withNodes}
-use Rattle.send_keeps.proofs.After.{Flags, represents-with}
+use Rattle.send_keeps.proofs.After.{represents-with}
 
 module _ (s : Settings) (memory : List ℕ) (m : Machine) (rep : RepresentsAt s memory m) (i : ℕ) (h : i < 6) where
   abbrev R : ℕ → ℕ → List ℕ

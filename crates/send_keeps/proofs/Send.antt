@@ -1,39 +1,40 @@
 -- A SOUND MEMORY STAYS SOUND THROUGH A SEND, done or refused, and what the send does to the machine. Assumes nothing.
+--     send-sound     the memory after it is sound
+--     send-changes     what each answer says of the machine before and after; send-done     the same of a send that is done
+--     send-allowed     it is done between bound tasks alone, with the blocks that the letter needs
 use mathlib.Core.Path.{_≡_, refl, sym, ap, _∙_, subst}
-use mathlib.Core.Bool.{Bool, true, false}
+use mathlib.Core.Bool.{true, false}
 use mathlib.Core.List.{List, [], _∷_, _++_}
 use Prim.Native.Nat.{ℕ, zero, suc, _+_, _-_, _*_, _≤_, _<_}
 use native.Mathlib.Nat.{zero-mul}
 use native.Mathlib.Omega.{arith}
 use lib.Dec.{eqb}
-use lib.ListN.{length, getD}
+use lib.ListN.{length}
 use borrow.Author.Tests.{leb-true, ne-eqb}
 use Rattle.words.proofs.Lists.{put, put-same, put-other, split, same?}
 use Rattle.settings.specs.declared.Settings.{Settings}
 use Rattle.settings.specs.Range.{InRange}
-use Rattle.layout.specs.Places.{nodeSize, node, withNode, sendAt, taskAt, roomAt}
-use Rattle.tasks.specs.Table.{nodeOf, queueOf, isBound, rightTable}
+use Rattle.layout.specs.Places.{nodeSize, node, withNode, sendAt, taskAt}
+use Rattle.tasks.specs.Table.{nodeOf, queueOf, isBound}
 use Rattle.tasks.proofs.Laws.{seat-within}
 use Rattle.blocks.specs.Chain.{needs, free}
 use Rattle.blocks.specs.Moves.{enough}
 use Rattle.letters.proofs.Rows.{needs-enough}
-use Rattle.queues.specs.Queue.{sendKind}
-use Rattle.queues.specs.Moves.{counted, appendAnswer}
-use Rattle.queues.proofs.Items.{FirstLive, live-first}
-use Rattle.gaps.specs.Close.{taskAnswer}
+use Rattle.queues.specs.Moves.{counted}
+use Rattle.queues.proofs.Items.{live-first}
 use Rattle.sound.specs.Reading.{settingsIn, tableIn}
 use Rattle.sound.specs.Queues.{taskOf}
 use Rattle.sound.specs.Sound.{sound}
 use Rattle.posting.specs.Letter.{letterOf, headerOf}
-use Rattle.posting.specs.Post.{Posted, tookIt, hasRoom, appendedTo, fullOf, putIn, posted}
+use Rattle.posting.specs.Post.{Posted, hasRoom, appendedTo, fullOf, putIn}
 use Rattle.posting.proofs.Frames.{post-few, post-full, post-done}
 use Rattle.posting.specs.declared.Goal.{Goal}
 use Rattle.posting.specs.declared.Goal.the-variants.{Task, Node as ToNode}
 use Rattle.posting.specs.declared.Sent.{Sent}
-use Rattle.posting.specs.declared.Sent.the-variants.{Done, SourceNotBound, DestinationNotBound, BodyTooLong, TooFewBlocks, QueueFull}
+use Rattle.posting.specs.declared.Sent.the-variants.{Done, SourceNotBound, DestinationNotBound, BodyTooLong}
 use Rattle.send.specs.Outcome.{Outcome, refusedBy, fits, goalOf, postedIn, delivered, send}
 use Rattle.send.proofs.Outcomes.{fits-both, goal-same, goal-other}
-use Rattle.machine.specs.Machine.{Letter, first, firsts, Node, Machine, All}
+use Rattle.machine.specs.Machine.{Letter, first, firsts, Node, Machine}
 use Rattle.machine.specs.Spelled.{nodeFrom, machineOf}
 use Rattle.machine.specs.Represents.{Right, RepresentsAt}
 use Rattle.machine.proofs.Sound.{sound-represents}
@@ -41,7 +42,7 @@ use Rattle.machine.proofs.Gives.{gives-stretch}
 use Rattle.moves.specs.Moves.{liveOnes}
 use Rattle.moves.proofs.Items.{firsts-live, all-live}
 use Rattle.moves.proofs.Queues.{length-counted}
-use Rattle.send_keeps.specs.Sends.{placeOf, newLetter, Stands, Refuses, Sends, Change}
+use Rattle.send_keeps.specs.Sends.{placeOf, newLetter, Refuses, Sends, Change, Allowed}
 use Rattle.send_keeps.proofs.Seats.{bound-some, task-is}
 use Rattle.send_keeps.proofs.Letter.{letter-long, right-task, right-send}
 use Rattle.send_keeps.proofs.Formed.{withNodes, Grown, letters-else}
@@ -153,6 +154,7 @@ module _ (memory : List ℕ) (e : sound memory ≡ true) where
               behind = ap liveOnes at ∙ live-more kept L (g .block) ∙ ap (λ (x : List Letter). x ++ L ∷ []) live;
               sent = λ z. at ∙ ap (λ (x : List Letter). x ++ L ∷ []) (g .whole z);
               elsewhere = λ k q c d ne. new-letters s memory m rep i h l₃ (a .long) refl N′ r k q c d ∙ letters-else (tableIn memory) m (rep .formed) i p kept L Y g k q d ne;
+              has = has;
               takes = new-free s memory m rep i h l₃ (a .long) refl N′ r i h ∙ ap (λ (Z : Node). Z .free) (put-same (m .node) i Y)
                   ∙ at-free s memory m rep i h ws some has p lo hi l₃ w kept a;
               free = λ k c ne. new-free s memory m rep i h l₃ (a .long) refl N′ r k c ∙ ap (λ (Z : Node). Z .free) (put-other (m .node) i Y k ne);
@@ -276,6 +278,40 @@ module _ (memory : List ℕ) (e : sound memory ≡ true) where
         (placeOf (goalOf (nodeOf (tableIn memory) source) (nodeOf (tableIn memory) destination) (queueOf (tableIn memory) destination)))
         (letterOf (headerOf (tableIn memory) source destination) body) (send memory source destination body .answer)
     send-changes = holds .1
+
+    -- done, in so many words
+    pub send-done : (n : ℕ) → send memory source destination body .answer ≡ Done n
+        → Sends (machineOf memory) (machineOf (send memory source destination body .memory)) (nodeOf (tableIn memory) source)
+        (placeOf (goalOf (nodeOf (tableIn memory) source) (nodeOf (tableIn memory) destination) (queueOf (tableIn memory) destination)))
+        n (letterOf (headerOf (tableIn memory) source destination) body)
+    send-done n d = subst (λ (a : Sent). Change m (machineOf (send memory source destination body .memory)) from (placeOf goal) words a) d send-changes
+
+    -- ---- what a done send says of its tasks and blocks
+    abbrev Says : Outcome → Type 0
+    Says o = (n : ℕ) → o .answer ≡ Done n → Allowed s table source destination n words
+
+    posted-says : isBound table source ≡ true → isBound table destination ≡ true → Says (postedIn s memory from goal words)
+    unfolding postedIn
+    posted-says bs bd =
+        let l : List ℕ = node s memory from in
+        let k : ℕ = needs s (length words) in
+        let Q : Posted → Type 0 = λ x. (n : ℕ) → x .answer ≡ Done n → Allowed s table source destination n words in
+        split (enough s l k)
+        (λ y. split (hasRoom s l goal)
+        (λ z. subst Q (post-done s l goal words k refl (putIn s l goal words) (sym y) (sym z) refl) (λ n d. record { from = bs; to = bd; blocks = cc }))
+        (λ z. subst Q (post-full s l goal words k refl (counted l (fullOf s goal)) (sym y) (sym z) refl) (λ n d. absurd (let z : _≡_ {A = ℕ} 0 1 = cc in omega arith))))
+        (λ y. subst Q (post-few s l goal words k refl (counted l 1) (sym y) refl) (λ n d. absurd (let z : _≡_ {A = ℕ} 0 1 = cc in omega arith)))
+
+    pub send-allowed : (n : ℕ) → send memory source destination body .answer ≡ Done n
+        → Allowed (settingsIn memory) (tableIn memory) source destination n (letterOf (headerOf (tableIn memory) source destination) body)
+    send-allowed =
+        split (isBound table source)
+        (λ bs. split (isBound table destination)
+        (λ bd. split (fits s (length body))
+        (λ ft. subst Says (sym (is-delivered bs bd ft)) (posted-says bs bd))
+        (λ ft. subst Says (sym (is-long bs bd ft)) (λ n d. absurd (let z : _≡_ {A = ℕ} 0 1 = cc in omega arith))))
+        (λ bd. subst Says (sym (is-other bs bd)) (λ n d. absurd (let z : _≡_ {A = ℕ} 0 1 = cc in omega arith))))
+        (λ bs. subst Says (sym (is-first bs)) (λ n d. absurd (let z : _≡_ {A = ℕ} 0 1 = cc in omega arith)))
 
 -- A SOUND MEMORY STAYS SOUND
 pub send-sound : (memory : List ℕ) (source destination : ℕ) (body : List ℕ) → sound memory ≡ true → sound (send memory source destination body .memory) ≡ true

@@ -1,8 +1,12 @@
 -- What a send does to the machine: 'Send', 'What comes back'.
 use mathlib.Core.Path.{_≡_}
+use mathlib.Core.Bool.{true}
 use mathlib.Core.List.{List, [], _∷_, _++_}
-use Prim.Native.Nat.{ℕ, _+_, _<_}
-use lib.ListN.{take, drop}
+use Prim.Native.Nat.{ℕ, _+_, _≤_, _<_}
+use lib.ListN.{length, take, drop}
+use Rattle.settings.specs.declared.Settings.{Settings}
+use Rattle.tasks.specs.Table.{isBound}
+use Rattle.blocks.specs.Chain.{needs}
 use Rattle.posting.specs.declared.Goal.{Goal}
 use Rattle.posting.specs.declared.Goal.the-variants.{Task, Node}
 use Rattle.posting.specs.declared.Sent.{Sent}
@@ -42,7 +46,8 @@ pub record Sends (m m′ : Machine) (i p n : ℕ) (words : List ℕ) : Type 0 wh
   pub sent : p < 13 → m′ .node i .letters p ≡ m .node i .letters p ++ newLetter (m .node i .free) n words ∷ []
   -- every other place of every node is the same
   pub elsewhere : (k q : ℕ) → k < 6 → q < 78 → (k ≡ i → q ≡ p → ⊥) → m′ .node k .letters q ≡ m .node k .letters q
-  -- 'Takes blocks in the source's node': its free list has lost its first n blocks
+  -- 'Takes blocks in the source's node': its free list had n blocks at least, and has lost its first n
+  pub has : n ≤ length (m .node i .free)
   pub takes : m′ .node i .free ≡ drop n (m .node i .free)
   -- the other nodes' free lists are the same
   pub free : (k : ℕ) → k < 6 → (k ≡ i → ⊥) → m′ .node k .free ≡ m .node k .free
@@ -56,3 +61,9 @@ Change m m′ i p words DestinationNotBound = Refuses m m′
 Change m m′ i p words BodyTooLong = Refuses m m′
 Change m m′ i p words TooFewBlocks = Refuses m m′
 Change m m′ i p words QueueFull = Refuses m m′
+
+-- a send is done, with n blocks, between bound tasks alone, and with the blocks that its letter needs
+pub record Allowed (s : Settings) (table : List ℕ) (source destination n : ℕ) (words : List ℕ) : Type 0 where
+  pub from : isBound table source ≡ true
+  pub to : isBound table destination ≡ true
+  pub blocks : n ≡ needs s (length words)
