@@ -11,7 +11,7 @@ use Rattle.layout.specs.Places.{nodes, taskQueues, sendAt, taskAt, node}
 use Rattle.layout.specs.Numbers.{destinationTaskWord}
 use Rattle.tasks.specs.Table.{nodeOf, queueOf, isBound}
 use Rattle.queues.specs.declared.Kind.{Kind}
-use Rattle.queues.specs.Queue.{sendKind, taskKind, items, run}
+use Rattle.queues.specs.Queue.{sendKind, taskKind, run}
 use Rattle.queues.proofs.Ring.{length-run}
 use Rattle.queues.specs.Items.{live}
 use Rattle.queues.proofs.Items.{length-live}
@@ -19,7 +19,8 @@ use Rattle.queues.proofs.Views.{length-contents}
 use Rattle.sound.specs.Reading.{tableIn, sendItems, taskItems}
 use Rattle.listing.specs.List.{wordIn, handedOver, fromTask, fromSend, waiting, fromNodes, ofTask, ofTasks}
 use Rattle.listing.specs.Asked.{Asked, Laid}
-use Rattle.listing.proofs.Given.{asked-table, asked-send, asked-task, bound-seat}
+use Rattle.tasks.proofs.Laws.{seat-below}
+use Rattle.listing.proofs.Given.{first-unbound, asked-table, asked-send, asked-task}
 
 module _ (s : Settings) (memory : List ℕ) (task i : ℕ) where
   pub length-task : (xs : List ℕ) → length (fromTask s memory task i xs) ≡ length xs
@@ -64,7 +65,7 @@ module _ (s : Settings) (memory : List ℕ) (a : Asked s memory) where
   few-task task =
       split (isBound (tableIn memory) task)
       (λ e.
-      let b = bound-seat (tableIn memory) (asked-table s memory a) task e in
+      let b = seat-below (tableIn memory) task (asked-table s memory a) e in
       let i : ℕ = nodeOf (tableIn memory) task in
       let q : ℕ = queueOf (tableIn memory) task in
       rw (e, length-append)
@@ -75,6 +76,11 @@ module _ (s : Settings) (memory : List ℕ) (a : Asked s memory) where
   unfolding ofTasks
   few-tasks zero = omega arith
   few-tasks (suc n) = rw length-append (omega (arith, few-tasks n, few-task n))
+
+-- 'For destination tasks 1 to 255': task 0 has no letter
+pub zero-none : (s : Settings) (memory : List ℕ) → Asked s memory → ofTask s memory 0 ≡ []
+unfolding ofTask
+zero-none s memory a = rw (first-unbound (tableIn memory) (asked-table s memory a))
 
 -- ---- how many letters there are so far
 module _ (s : Settings) (memory : List ℕ) (task i n r : ℕ) (out left : List ℕ) where

@@ -1,24 +1,24 @@
 -- What a sound memory gives to the functions of list. Assumes nothing.
 use mathlib.Core.Path.{_≡_, sym, ap₂, _∙_}
-use mathlib.Core.Bool.{true, false, _&&_, _||_, not}
+use mathlib.Core.Bool.{true, false}
 use mathlib.Core.List.{List}
 use Prim.Native.Nat.{ℕ, _+_, _-_, _≤_, _<_}
 use native.Mathlib.Omega.{arith}
-use lib.Dec.{eqb, ltb, leb}
+use lib.Dec.{eqb}
 use lib.ListN.{length, getD}
-use borrow.Author.Tests.{leb-true, ltb-true, not-true}
 use Rattle.words.specs.Words.{part}
-use Rattle.words.proofs.Lists.{split, and-true, every-at}
+use Rattle.words.proofs.Lists.{and-true}
 use Rattle.settings.specs.declared.Settings.{Settings}
-use Rattle.layout.specs.Places.{nodes, taskQueues, taskIds, nodesAt, sendAt, taskAt, nodeSize, nodeAt, node}
+use Rattle.layout.specs.Places.{nodes, taskQueues, nodesAt, sendAt, taskAt, nodeSize, nodeAt, node}
 use Rattle.layout.specs.Numbers.{headerWords, sourceTaskWord, lengthWord}
 use Rattle.layout.specs.Asked.{Stretch, Sized}
 use Rattle.words.proofs.Parts.{length-part}
 use Rattle.layout.proofs.Fits.{nodes-fit}
 use Rattle.layout.proofs.MemoryRows.{stretch-fits}
-use Rattle.tasks.specs.Table.{nodeOf, queueOf, holdsNone, isBound, hasSeat, seated, apart, rightTable}
+use Rattle.tasks.specs.Table.{holdsNone, isBound, rightTable}
+use Rattle.tasks.proofs.Laws.{told-at, seat-below}
 use Rattle.tasks.specs.Seat.{seatOf}
-use Rattle.tasks.specs.declared.Seat.the-variants.{At, Unbound}
+use Rattle.tasks.specs.declared.Seat.the-variants.{At}
 use Rattle.letters.specs.Letter.{word}
 use Rattle.letters.specs.Asked.{Lies}
 use Rattle.queues.specs.declared.Kind.{Kind}
@@ -26,7 +26,6 @@ use Rattle.queues.specs.Queue.{sendKind, taskKind, items, itemAt, Queue}
 use Rattle.queues.proofs.Views.{length-contents, contents-item}
 use Rattle.sound.specs.Reading.{tableIn, sendItems, taskItems}
 use Rattle.sound.specs.Letters.{toldLength}
-use Rattle.sound.specs.Sound.{sound}
 use Rattle.sound.proofs.Gives.{gives-table, gives-sized, gives-send, gives-task}
 use Rattle.sound.proofs.Held.{Right, send-right, task-right}
 use Rattle.sound.proofs.Right.{right-least, right-lies, right-word, right-told}
@@ -74,46 +73,14 @@ module _ (s : Settings) (memory : List ℕ) (i b : ℕ) (g : Begins s memory i b
   pub told-least : (long : ℕ) → long ≡ wordIn s memory i b lengthWord → headerWords ≤ long
   told-least long f = omega (arith, f ∙ begins-told, begins-least)
 
--- ---- where a bound task sits
-module _ (t : List ℕ) (r : rightTable t ≡ true) (id : ℕ) where
-  right-seated : seated t ≡ true
-  unfolding rightTable
-  right-seated =
-      let a = and-true (eqb (length t) 512) _ r in
-      let b = and-true (holdsNone t 0) _ (a .1) in
-      and-true (seated t) (apart t) (b .1) .0
+-- ---- 'task 0 unbound'
+pub first-unbound : (t : List ℕ) → rightTable t ≡ true → isBound t 0 ≡ false
+unfolding rightTable isBound
+first-unbound t r = rw (and-true (holdsNone t 0) _ (and-true (eqb (length t) 512) _ r .1) .0)
 
-  pub bound-seat : isBound t id ≡ true → (nodeOf t id < nodes) × (queueOf t id < taskQueues)
-  unfolding isBound seated hasSeat
-  bound-seat e =
-      let a = and-true (ltb id taskIds) (not (holdsNone t id)) e in
-      let f : holdsNone t id ≡ false = not-true (holdsNone t id) (a .1) in
-      let g : leb (nodeOf t id) 5 && leb (queueOf t id) 63 ≡ true =
-      rw f at (every-at (λ id. holdsNone t id || (leb (nodeOf t id) 5 && leb (queueOf t id) 63)) 256 right-seated id (ltb-true id 256 (a .0))) in
-      let h = and-true (leb (nodeOf t id) 5) (leb (queueOf t id) 63) g in
-      let x = leb-true (nodeOf t id) 5 (h .0) in
-      let y = leb-true (queueOf t id) 63 (h .1) in
-      (omega arith, omega arith)
-
--- what the answer tells of the task
-module _ (t : List ℕ) (id : ℕ) where
-  pub told-bound : (i q : ℕ) → seatOf t id ≡ At i q → (isBound t id ≡ true) × ((i ≡ nodeOf t id) × (q ≡ queueOf t id))
-  unfolding seatOf
-  told-bound i q e =
-      split (isBound t id)
-      (λ b. let f : At (nodeOf t id) (queueOf t id) ≡ At i q = rw b at e in (b, (cc, cc)))
-      (λ b. let f : Unbound ≡ At i q = rw b at e in let z : _≡_ {A = ℕ} 0 1 = cc in absurd (omega arith))
-
-  pub told-unbound : seatOf t id ≡ Unbound → isBound t id ≡ false
-  unfolding seatOf
-  told-unbound e =
-      split (isBound t id)
-      (λ b. let f : At (nodeOf t id) (queueOf t id) ≡ Unbound = rw b at e in let z : _≡_ {A = ℕ} 0 1 = cc in absurd (omega arith))
-      (λ b. b)
-
--- so a task that the answer seats sits on a node and a queue
+-- a task that the answer seats sits on a node and a queue
 pub told-seat : (t : List ℕ) → rightTable t ≡ true → (id i q : ℕ) → seatOf t id ≡ At i q → (i < nodes) × (q < taskQueues)
-told-seat t r id i q e = let b = told-bound t id i q e in rw (b .1 .0, b .1 .1) (bound-seat t r id (b .0))
+told-seat t r id i q e = let b = told-at t id i q e in rw (b .1 .0, b .1 .1) (seat-below t id r (b .0))
 
 -- ---- a sound memory and its settings
 module _ (s : Settings) (memory : List ℕ) (a : Asked s memory) where

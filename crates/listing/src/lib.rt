@@ -9,7 +9,7 @@ ghost use mathlib.Core.List.{[], _∷_};
 ghost use Prim.Native.Nat.{_*_, _+_, _≤_, _<_};
 ghost use lib.ListN.{length, set};
 ghost use lib.Seq.{sets};
-ghost use Rattle.layout.specs.Places.{nodes, taskQueues, taskIds, nodesAt, node};
+ghost use Rattle.layout.specs.Places.{nodes, taskQueues, nodesAt, node};
 ghost use Rattle.layout.specs.Numbers.{listWords, headerWords};
 ghost use Rattle.layout.specs.Asked.{Sized};
 ghost use Rattle.queues.specs.Queue.{Queue, items, itemAt};
@@ -46,20 +46,6 @@ pub enum Listed {
     Done(u32),
     NotSound,
     OutTooShort(u32),
-}
-
-// The settings that the first words tell.
-fn settings_in(memory: &[u32]) -> Settings
-    requires { ⌜ 5 ≤ length (now memory) ⌝ }
-    ensures { λ r. ⌜ r ≡ settingsIn (now (memory .entry)) ⌝ }
-{
-    Settings {
-        b: memory[0] as usize,
-        m: memory[1] as usize,
-        s: memory[2] as usize,
-        a: memory[3] as usize,
-        t: memory[4] as usize,
-    }
 }
 
 // A word at a place of out, where out has that place.
@@ -299,11 +285,11 @@ fn list_tasks(memory: &[u32], s: Settings, out: &mut [u32]) -> usize
 }
 
 // List, of a sound memory: a first time with no place to write, for the number of letters, and then into out.
-pub fn list_sound(memory: &[u32], out: &mut [u32]) -> Listed
+fn list_sound(memory: &[u32], out: &mut [u32]) -> Listed
     requires { ⌜ sound (now memory) ≡ true ⌝ }
     ensures { λ r. ⌜ record { answer = r; out = now (out .exit) } ≡ list (now (memory .entry)) (now (out .entry)) ⌝ }
 {
-    let s = settings_in(memory);
+    let s = sound::settings_in(memory);
     let letters = list_tasks(memory, s, &mut out[0..0]);
     if out.len() < letters * 6 {
         return Listed::OutTooShort(letters as u32);
@@ -331,4 +317,14 @@ pub fn number_of(answer: Listed) -> Answer
             third: 0,
         },
     }
+}
+
+// List, for any memory and any out.
+pub fn list(memory: &[u32], out: &mut [u32]) -> Listed
+    ensures { λ r. ⌜ record { answer = r; out = now (out .exit) } ≡ list (now (memory .entry)) (now (out .entry)) ⌝ }
+{
+    if !soundness::is_sound(memory) {
+        return Listed::NotSound;
+    }
+    list_sound(memory, out)
 }

@@ -1,50 +1,48 @@
 -- WHAT REPRESENTS A WELL-FORMED MACHINE IS SOUND, and the machine is the one that the memory spells. Assumes nothing.
 use mathlib.Core.Path.{_≡_, refl, sym, ap, ap₂, _∙_, subst}
-use mathlib.Core.Bool.{Bool, true, false, cond, _&&_, _||_, not, false≢true}
-use mathlib.Core.List.{List, [], _∷_, _++_, map}
+use mathlib.Core.Bool.{Bool, true, _&&_, _||_, not}
+use mathlib.Core.List.{List, [], _∷_, map}
 use mathlib.Core.Logic.{⊎-elim}
-use Prim.Native.Nat.{ℕ, zero, suc, _+_, _-_, _*_, _≤_, _<_}
+use Prim.Native.Nat.{ℕ, suc, _+_, _-_, _*_, _≤_, _<_}
 use native.Mathlib.Nat.{zero-mul}
 use native.Mathlib.Omega.{arith}
 use lib.Dec.{eqb, leb}
 use lib.ListN.{length, getD, take}
 use lib.Seq.{getD-take}
-use borrow.Author.Tests.{eq-eqb, ne-eqb, eqb-true, eqb-false, leb-true, le-leb}
-use Rattle.words.specs.Words.{every, all, alike}
-use Rattle.words.specs.Count.{hit, occurs, sum, downFrom}
+use borrow.Author.Tests.{eq-eqb, ne-eqb, le-leb}
+use Rattle.words.specs.Words.{every, all}
+use Rattle.words.specs.Count.{occurs, downFrom}
 use Rattle.words.proofs.Count.{hit-self, down-in, down-range, count-most, sum-le}
-use Rattle.words.proofs.Lists.{split, same?, le-or-lt, and-true, and-join, every-all, all-at, same-alike}
+use Rattle.words.proofs.Lists.{same?, le-or-lt, and-true, and-join, every-all, all-at, same-alike}
 use Rattle.settings.specs.declared.Settings.{Settings}
 use Rattle.settings.specs.Range.{InRange}
-use Rattle.layout.specs.Places.{node, nodeSize, memorySize, gapWord, sendAt, ackAt, taskAt}
-use Rattle.layout.specs.Rows.{width}
-use Rattle.layout.specs.Asked.{Stretch, Sized}
+use Rattle.layout.specs.Places.{node, memorySize, gapWord, sendAt, ackAt, taskAt}
+use Rattle.layout.specs.Asked.{Stretch}
 use Rattle.layout.proofs.NodeRows.{start-send, start-ack, start-task, width-task}
 use Rattle.tasks.specs.Table.{rightTable}
 use Rattle.blocks.specs.Chain.{needs, after, text}
-use Rattle.blocks.proofs.Chains.{Leads, textIn, firstIn}
+use Rattle.blocks.proofs.Chains.{Leads, textIn}
 use Rattle.blocks.proofs.Rows.{rows, first-rows, list-is, after-is, text-rows}
 use Rattle.letters.proofs.Rows.{needs-enough}
 use Rattle.letters.proofs.Copies.{node-stretch}
-use Rattle.queues.specs.Queue.{sendKind, ackKind, taskKind, contents}
+use Rattle.queues.specs.Queue.{sendKind, ackKind, taskKind}
 use Rattle.queues.specs.Items.{live, gapFlag}
 use Rattle.queues.proofs.Items.{FirstLive}
-use Rattle.queues.proofs.Ring.{Ring}
 use Rattle.queues.proofs.InRow.{room-send, room-ack, room-task}
-use Rattle.sound.specs.Reading.{settingsIn, turnIn, stageOf, otherOf, heldOf, tableIn, sendItems, ackItems, taskItems}
-use Rattle.sound.specs.Queues.{inShape, taskOf, isBlock, noneToItself, noneUnbound, firstLive, rightSend, rightAck, rightTask}
-use Rattle.sound.specs.Letters.{chainFrom, endsWell, toldLength, wordsFrom, rightLength, rightHeader, rightPlace, rightLetter}
+use Rattle.sound.specs.Reading.{settingsIn, heldOf, tableIn, sendItems, ackItems, taskItems}
+use Rattle.sound.specs.Queues.{inShape, taskOf, isBlock, noneToItself, noneUnbound, rightSend, rightAck, rightTask}
+use Rattle.sound.specs.Letters.{chainFrom, endsWell, toldLength, wordsFrom, rightLength, rightLetter}
 use Rattle.sound.specs.Positions.{namesOther, holdsCopy, rightPosition, held}
 use Rattle.sound.specs.Blocks.{begun, visits, eachOnce}
 use Rattle.sound.specs.Sound.{sound}
-use Rattle.machine.specs.Machine.{Letter, gap, first, firsts, Live, wordsOf, Node, Machine, All, many}
+use Rattle.machine.specs.Machine.{Letter, first, firsts, Live, wordsOf, Machine, All, many}
 use Rattle.machine.specs.Spelled.{letterFrom, shown, nodeFrom, machineOf}
-use Rattle.machine.specs.Core.{rowsOf, seat, line, kind, Held, Core}
+use Rattle.machine.specs.Core.{rowsOf, Held, Core}
 use Rattle.machine.specs.Represents.{Right, RightPosition, WellFormed, Shows, RepresentsAt, Represents}
 use Rattle.machine.proofs.Letters.{length-firsts, alive, first-in, Among}
 use Rattle.machine.proofs.Places.{at-place, seat-send, line-send, seat-ack, line-ack, seat-task, line-task, kind-send, kind-ack, kind-task, row-ring, row-word, shown-hand, shown-transit, shown-send, shown-ack, shown-task, begun-low, begun-task}
 use Rattle.machine.proofs.Facts.{Facts, facts-sound}
-use Rattle.machine.proofs.Counts.{sum-same, empty, lettersAt, count-visits}
+use Rattle.machine.proofs.Counts.{sum-same, lettersAt, count-visits}
 
 -- each number that stands in the list passes: all pass
 in-all : (p : ℕ → Bool) (l : List ℕ) → ((x : ℕ) → 1 ≤ occurs x l → p x ≡ true) → all p l ≡ true
@@ -216,8 +214,8 @@ module _ (s : Settings) (memory : List ℕ) (M : Machine) (size : length memory 
       let e = send-back i k h g in
       rw (e .0, e .1)
       (and-join (noneToItself s memory i k (firsts (ls i (1 + k)))) (all (isBlock s memory i) (firsts (ls i (1 + k))))
-      (same? k i (λ q t. rw (t, q, formed .itself i h)) (λ q t. rw t))
-      (blocks-back (s .m) (ls i (1 + k)) (among i (1 + k) h (omega arith)) (formed .live i (1 + k) h (omega arith))))
+      (same? k i (λ q t. rw (t, q, formed .order .itself i h)) (λ q t. rw t))
+      (blocks-back (s .m) (ls i (1 + k)) (among i (1 + k) h (omega arith)) (formed .order .live i (1 + k) h (omega arith))))
 
   acks : (i k : ℕ) → i < 6 → k < 6 → rightAck s memory i k ≡ true
   unfolding rightAck
@@ -225,8 +223,8 @@ module _ (s : Settings) (memory : List ℕ) (M : Machine) (size : length memory 
       let e = ack-back i k h g in
       rw (e .0, e .1)
       (and-join (noneToItself s memory i k (firsts (ls k (7 + i)))) (all (isBlock s memory i) (firsts (ls k (7 + i))))
-      (same? k i (λ q t. rw (t, q, formed .itself-ack i h)) (λ q t. rw t))
-      (blocks-back (s .m) (ls k (7 + i)) (among k (7 + i) g (omega arith)) (formed .live k (7 + i) g (omega arith))))
+      (same? k i (λ q t. rw (t, q, formed .order .itself-ack i h)) (λ q t. rw t))
+      (blocks-back (s .m) (ls k (7 + i)) (among k (7 + i) g (omega arith)) (formed .order .live k (7 + i) g (omega arith))))
 
   flag-back : (i q : ℕ) → i < 6 → q < 64 → getD (node s memory i) (taskAt s q + gapWord) 0 ≡ gapFlag (firsts (ls i (13 + q)))
   flag-back i q h g =
@@ -239,9 +237,9 @@ module _ (s : Settings) (memory : List ℕ) (M : Machine) (size : length memory 
   tasks i q h g =
       let e = task-back i q h g in
       let xs : List ℕ = firsts (ls i (13 + q)) in
-      rw (e .0, e .1, items-back (s .m) (ls i (13 + q)) (among i (13 + q) h (omega arith)), first-test xs (formed .fronts i q h g))
+      rw (e .0, e .1, items-back (s .m) (ls i (13 + q)) (among i (13 + q) h (omega arith)), first-test xs (formed .order .fronts i q h g))
       (and-join (noneUnbound s memory i q xs) (eqb (getD (node s memory i) (taskAt s q + gapWord) 0) (gapFlag xs))
-      (same? (taskOf (tableIn memory) i q) 0 (λ z t. rw (t, formed .unbound i q h g z)) (λ z t. rw t))
+      (same? (taskOf (tableIn memory) i q) 0 (λ z t. rw (t, formed .order .unbound i q h g z)) (λ z t. rw t))
       (eq-eqb (getD (node s memory i) (taskAt s q + gapWord) 0) (gapFlag xs) (flag-back i q h g)))
 
   -- ---- the hand
@@ -291,10 +289,10 @@ module _ (s : Settings) (memory : List ℕ) (M : Machine) (size : length memory 
   letters-same : (i p : ℕ) → i < 6 → p < 78 → lettersAt s memory i p ≡ ls i p
   letters-same i p h g =
       same? p 77
-      (λ q e. rw (q, shown-transit s memory i, formed .still i h))
+      (λ q e. rw (q, shown-transit s memory i, formed .order .still i h))
       (λ q e.
       ap (map (letterFrom s (node s memory i))) (shown-back i p h (omega arith))
-      ∙ letters-back s (node s memory i) (stretch i h) (tableIn memory) i p (ls i p) (among i p h g) (core .letters i p h g) (formed .letters i p h (omega arith)))
+      ∙ letters-back s (node s memory i) (stretch i h) (tableIn memory) i p (ls i p) (among i p h g) (core .letters i p h g) (formed .order .letters i p h (omega arith)))
 
   few-free : (i : ℕ) → i < 6 → (x : ℕ) → occurs x (M .node i .free) ≤ occurs x (downFrom (s .m))
   few-free i h x = omega (arith, core .once i x h)
@@ -322,11 +320,11 @@ module _ (s : Settings) (memory : List ℕ) (M : Machine) (size : length memory 
   letters : (i p : ℕ) → i < 6 → p < 77 → all (rightLetter s (node s memory i) (tableIn memory) i p) (begun s memory i p) ≡ true
   letters i p h g =
       let u = core .letters i p h (omega arith) in
-      let v = formed .letters i p h g in
+      let v = formed .order .letters i p h g in
       let a = among i p h (omega arith) in
       ⊎-elim
       (λ b. rw (begun-task s memory i p b g, shown-back i p h g) (tests-live s (node s memory i) (stretch i h) (tableIn memory) i p (ls i p) a u v))
-      (λ b. rw (begun-low s memory i p b, shown-back i p h g) (tests-back s (node s memory i) (stretch i h) (tableIn memory) i p (ls i p) a u v (formed .live i p h b)))
+      (λ b. rw (begun-low s memory i p b, shown-back i p h g) (tests-back s (node s memory i) (stretch i h) (tableIn memory) i p (ls i p) a u v (formed .order .live i p h b)))
       (le-or-lt 13 p)
 
   -- ---- positions
@@ -343,7 +341,7 @@ module _ (s : Settings) (memory : List ℕ) (M : Machine) (size : length memory 
         (le-leb 1 (length (ls o (1 + j))) (p .waits z))
 
     front : (i p : ℕ) → i < 6 → p < 77 → 1 ≤ length (ls i p) → wordsFrom s (node s memory i) (getD (firsts (ls i p)) 0 0) ∷ [] ≡ take 1 (map wordsOf (ls i p))
-    front i p a g n = front-back s (node s memory i) (stretch i a) (tableIn memory) i p (ls i p) (among i p a (omega arith)) (core .letters i p a (omega arith)) (formed .letters i p a g) n
+    front i p a g n = front-back s (node s memory i) (stretch i a) (tableIn memory) i p (ls i p) (among i p a (omega arith)) (core .letters i p a (omega arith)) (formed .order .letters i p a g) n
 
     copy-back : M .stage j ≡ 2 → holdsCopy s memory j ≡ true
     unfolding holdsCopy
@@ -363,7 +361,7 @@ module _ (s : Settings) (memory : List ℕ) (M : Machine) (size : length memory 
     held-back : M .stage j ≡ 2 → (leb 1 (heldOf memory j) ≡ true) × (leb (heldOf memory j) (s .m) ≡ true)
     held-back q =
         let d = one j h q in
-        let e = all-at (λ b. leb 1 b && leb b (s .m)) (firsts (ls j 0)) (blocks-back (s .m) (ls j 0) (among j 0 h (omega arith)) (formed .live j 0 h (omega arith))) 0 (rw (length-firsts (ls j 0)) (omega arith)) in
+        let e = all-at (λ b. leb 1 b && leb b (s .m)) (firsts (ls j 0)) (blocks-back (s .m) (ls j 0) (among j 0 h (omega arith)) (formed .order .live j 0 h (omega arith))) 0 (rw (length-firsts (ls j 0)) (omega arith)) in
         rw (shows .hand j h) (and-true (leb 1 (getD (firsts (ls j 0)) 0 0)) (leb (getD (firsts (ls j 0)) 0 0) (s .m)) e)
 
     position : rightPosition s memory j ≡ true

@@ -1,8 +1,8 @@
 -- A sound memory's test taken apart into the rules, for each node, queue and place; and put together again. Assumes nothing.
-use mathlib.Core.Path.{_≡_, refl, sym, ap, _∙_}
-use mathlib.Core.Bool.{Bool, true, false, _&&_}
+use mathlib.Core.Path.{_≡_}
+use mathlib.Core.Bool.{true, _&&_}
 use mathlib.Core.List.{List}
-use Prim.Native.Nat.{ℕ, _+_, _≤_, _<_}
+use Prim.Native.Nat.{ℕ, _≤_, _<_}
 use lib.Dec.{eqb, leb}
 use lib.ListN.{length}
 use borrow.Author.Tests.{leb-true, le-leb, eqb-true, eq-eqb}
@@ -11,7 +11,7 @@ use Rattle.words.proofs.Lists.{and-true, and-join, every-at, every-all}
 use Rattle.settings.specs.declared.Settings.{Settings}
 use Rattle.settings.specs.Range.{inRange, InRange}
 use Rattle.settings.proofs.Laws.{range-true, true-range}
-use Rattle.layout.specs.Places.{nodes, taskQueues, node, memorySize}
+use Rattle.layout.specs.Places.{nodes, node, memorySize}
 use Rattle.tasks.specs.Table.{rightTable}
 use Rattle.sound.specs.Reading.{settingsIn, turnIn, tableIn}
 use Rattle.sound.specs.Queues.{rightSend, rightAck, rightTask, rightQueues}

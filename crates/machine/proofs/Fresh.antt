@@ -1,29 +1,25 @@
 -- A MEMORY FRESH FROM SET UP IS SOUND: it represents the fresh machine. Assumes nothing.
-use mathlib.Core.Path.{_≡_, refl, sym, ap, ap₂, _∙_, subst}
-use mathlib.Core.Bool.{Bool, true, false, cond}
+use mathlib.Core.Path.{_≡_, refl, sym, ap, _∙_, subst}
+use mathlib.Core.Bool.{true}
 use mathlib.Core.List.{List, [], _∷_, _++_, append-assoc}
 use mathlib.Core.Logic.{⊎-elim}
 use Prim.Native.Nat.{ℕ, zero, suc, _+_, _-_, _*_, _%_, _≤_, _<_}
 use native.Mathlib.Nat.{suc-mul, zero-mul, mul-le-mul-right}
 use native.Mathlib.Numerals.{add-one}
 use native.Mathlib.Omega.{arith}
-use lib.Dec.{ltb}
 use lib.ListN.{length, getD, take, drop, replicate, length-append, length-replicate, length-drop, List·getD-append, List·getD-eq-default}
 use lib.Seq.{getD-append-add, drop-append-add, drop-append-le, take-append-le, take-all, take-at, drop-at}
 use borrow.Author.Tests.{lt-ltb, le-ltb}
-use Rattle.words.specs.Words.{part}
 use Rattle.words.specs.Rows as wordRows
-use Rattle.words.specs.Count.{hit, occurs, sum, downFrom}
+use Rattle.words.specs.Count.{occurs, downFrom}
 use Rattle.words.proofs.Count.{occurs-append}
 use Rattle.words.proofs.Lists.{same?, le-or-lt}
 use Rattle.words.proofs.Rows.{start-lt, place-in, length-row, getD-row}
 use Rattle.settings.specs.declared.Settings.{Settings}
 use Rattle.settings.specs.Range.{inRange, InRange}
-use Rattle.settings.specs.Made.{settingsOf}
 use Rattle.settings.proofs.Laws.{range-true}
-use Rattle.layout.specs.Places.{tableWords, positionAt, blocksAt, blockAt, linkAt, nodeSize, nodeAt, nodeEnd, memorySize, node}
+use Rattle.layout.specs.Places.{tableWords, blocksAt, blockAt, nodeSize, nodeAt, memorySize, node}
 use Rattle.layout.specs.Rows.{width}
-use Rattle.layout.specs.Asked.{Stretch}
 use Rattle.layout.proofs.NodeRows.{width-head, start-block, row-fits}
 use Rattle.tasks.specs.Table.{rightTable}
 use Rattle.tasks.proofs.Laws.{right-length}
@@ -35,13 +31,12 @@ use Rattle.queues.specs.Queue.{sendKind, ackKind, taskKind}
 use Rattle.queues.specs.Items.{gapFlag}
 use Rattle.queues.proofs.Ring.{Ring}
 use Rattle.queues.proofs.InRow.{Room, room-send, room-ack, room-task}
-use Rattle.sound.specs.Reading.{settingsIn, turnIn, stageOf, otherOf, heldOf, tableIn}
+use Rattle.sound.specs.Reading.{settingsIn, tableIn}
 use Rattle.sound.specs.Sound.{sound}
 use Rattle.setup.specs.Fresh.{nextFree, freshBlock, freshBlocks, freshFront, freshNode, freshNodes, freshHead, freshMemory}
-use Rattle.setup.proofs.Laws.{length-block, length-blocks, length-front, length-node, length-nodes, length-head}
-use Rattle.machine.specs.Machine.{Machine}
+use Rattle.setup.proofs.Laws.{length-blocks, length-front, length-node, length-nodes, length-head}
 use Rattle.machine.specs.Core.{rowsOf, seat, line, kind, Core}
-use Rattle.machine.specs.Represents.{RightPosition, WellFormed, Shows, RepresentsAt}
+use Rattle.machine.specs.Represents.{WellFormed, Shows, RepresentsAt}
 use Rattle.machine.specs.Fresh.{upTo, freshMachine}
 use Rattle.machine.proofs.Places.{at-place, seat-send, line-send, seat-ack, line-ack, seat-task, line-task, kind-send, kind-ack, kind-task}
 use Rattle.machine.proofs.Counts.{sum-none}
@@ -261,13 +256,15 @@ module _ (s : Settings) (r : InRange s) where
     formed-fresh =
         record {
           turn = omega arith;
-          still = λ i g. refl;
-          live = λ i p g k. tt;
-          fronts = λ i q g k a e. omega arith;
-          itself = λ i g. refl;
-          itself-ack = λ i g. refl;
-          unbound = λ i q g k z. refl;
-          letters = λ i p g k. tt;
+          order = record {
+            still = λ i g. refl;
+            live = λ i p g k. tt;
+            fronts = λ i q g k a e. omega arith;
+            itself = λ i g. refl;
+            itself-ack = λ i g. refl;
+            unbound = λ i q g k z. refl;
+            letters = λ i p g k. tt;
+          };
           positions = λ j g. record {
             none = λ z. refl;
             most = omega arith;

@@ -3,39 +3,38 @@
 --     gives-send, gives-ack, gives-task     the queues in words hold the letters' first blocks; gives-findable     a letter may be looked for
 --     gives-row, gives-flagged     a task queue with its flag, in its row and in words
 --     gives-chain, gives-chained, gives-lies, gives-letter, gives-told, gives-source     a letter in its chain
-use mathlib.Core.Path.{_≡_, refl, sym, ap, _∙_, subst}
-use mathlib.Core.List.{List, [], _∷_, _++_}
-use Prim.Native.Nat.{ℕ, zero, suc, _+_, _-_, _*_, _/_, _%_, _≤_, _<_}
+use mathlib.Core.Path.{_≡_, sym, ap, _∙_, subst}
+use mathlib.Core.List.{List, [], _∷_}
+use Prim.Native.Nat.{ℕ, zero, suc, _+_, _-_, _≤_, _<_}
 use native.Mathlib.Nat.{zero-div, zero-mod}
 use native.Mathlib.Omega.{arith}
 use lib.ListN.{length, getD, take}
-use Rattle.words.specs.Count.{hit, occurs, sum, downFrom}
+use Rattle.words.specs.Count.{occurs, downFrom}
 use Rattle.words.proofs.Count.{down-range, down-once, count-most, sum-le}
 use Rattle.words.proofs.Lists.{same?}
 use Rattle.settings.specs.declared.Settings.{Settings}
 use Rattle.settings.specs.Range.{InRange}
 use Rattle.layout.specs.Places.{node, memorySize, sendAt, ackAt, taskAt, gapWord, blockAt}
-use Rattle.layout.specs.Numbers.{sourceTaskWord, lengthWord}
-use Rattle.layout.specs.Rows.{width}
-use Rattle.layout.specs.Asked.{Stretch, Sized}
+use Rattle.layout.specs.Numbers.{sourceTaskWord}
+use Rattle.layout.specs.Asked.{Stretch}
 use Rattle.layout.proofs.NodeRows.{start-send, start-ack, start-task, width-task}
-use Rattle.blocks.specs.Chain.{needs, chain, after, free, text, Within, Chained}
-use Rattle.blocks.specs.Asked.{FreeList, Walks, Takes}
-use Rattle.blocks.proofs.Chains.{Leads, textIn, firstIn}
-use Rattle.blocks.proofs.Rows.{rows, in-within, first-rows, free-is, chain-is, after-is, text-rows}
+use Rattle.blocks.specs.Chain.{needs, chain, after, free, text, Chained}
+use Rattle.blocks.specs.Asked.{FreeList, Takes}
+use Rattle.blocks.proofs.Chains.{firstIn}
+use Rattle.blocks.proofs.Rows.{in-within, first-rows, free-is, chain-is, after-is, text-rows}
 use Rattle.letters.specs.Letter.{word, told, letter}
 use Rattle.letters.specs.Asked.{Lies}
 use Rattle.letters.proofs.Laws.{word-letter}
 use Rattle.letters.proofs.Copies.{node-stretch}
-use Rattle.queues.specs.Queue.{sendKind, ackKind, taskKind, items, itemAt}
+use Rattle.queues.specs.Queue.{sendKind, ackKind, taskKind, itemAt}
 use Rattle.queues.specs.Items.{gapFlag}
 use Rattle.queues.proofs.Items.{FirstLive}
 use Rattle.queues.proofs.Ring.{Ring, ring-queue}
 use Rattle.queues.proofs.InRow.{room-send, room-ack, room-task}
 use Rattle.queues.proofs.Tasks.{TaskRing}
 use Rattle.taking.specs.Find.{Findable}
-use Rattle.machine.specs.Machine.{Letter, gap, first, firsts, Live, Node, Machine, All, many}
-use Rattle.machine.specs.Core.{rowsOf, seat, line, kind, Held, Core}
+use Rattle.machine.specs.Machine.{Letter, gap, first, firsts, Node, many}
+use Rattle.machine.specs.Core.{rowsOf, Held, Core}
 use Rattle.machine.specs.Represents.{Right}
 use Rattle.machine.proofs.Letters.{all-at, many-at, alive, first-in, Among}
 use Rattle.machine.proofs.Places.{seat-send, line-send, seat-ack, line-ack, seat-task, line-task, kind-send, kind-ack, kind-task, row-words, row-word}

@@ -1,14 +1,14 @@
 -- Lists of letters: what holds of each, how often a block stands in them, and their first blocks. Assumes nothing.
-use mathlib.Core.Path.{_≡_, refl, sym, ap, _∙_}
-use mathlib.Core.List.{List, [], _∷_, _++_, map}
+use mathlib.Core.Path.{_≡_, refl, ap, _∙_}
+use mathlib.Core.List.{List, [], _∷_, _++_}
 use Prim.Native.Nat.{ℕ, zero, suc, _+_, _≤_, _<_}
 use native.Mathlib.Omega.{arith}
 use lib.ListN.{length, getD, take}
-use Rattle.words.specs.Count.{hit, occurs, downFrom}
+use Rattle.words.specs.Count.{occurs, downFrom}
 use Rattle.words.proofs.Count.{hit-self}
 use Rattle.blocks.proofs.Chains.{Same, leads-same, text-same}
 use Rattle.settings.specs.declared.Settings.{Settings}
-use Rattle.machine.specs.Machine.{Letter, gap, first, firsts, Live, Node, All, many}
+use Rattle.machine.specs.Machine.{Letter, gap, first, firsts, Live, All, many}
 use Rattle.machine.specs.Core.{Held}
 
 module _ {ℓ} {A : Type ℓ} (P : A → Type 0) where

@@ -2,31 +2,29 @@
 --     at-place     what holds of each send, acknowledge and task queue holds of every place 1 to 76
 --     seat-.., line-.., kind-..     by kind of place; ring-row, row-words, row-ring     a queue in words is a queue in its row, and back
 --     shown-..     what the words show at each kind of place; begun-low, begun-task     against the blocks that begin letters
-use mathlib.Core.Path.{_≡_, refl, sym, ap, ap₂, _∙_, subst}
-use mathlib.Core.Bool.{Bool, true, false, cond, _&&_, _||_}
-use mathlib.Core.List.{List, [], _∷_}
+use mathlib.Core.Path.{_≡_, refl, ap, _∙_, subst}
+use mathlib.Core.Bool.{Bool, true, _&&_, _||_}
+use mathlib.Core.List.{List, []}
 use mathlib.Core.Logic.{⊎-elim}
-use Prim.Native.Nat.{ℕ, zero, suc, _+_, _-_, _≤_, _<_}
+use Prim.Native.Nat.{ℕ, _+_, _-_, _≤_, _<_}
 use native.Mathlib.Omega.{arith}
 use lib.Dec.{eqb, ltb, leb}
 use lib.ListN.{length, getD}
 use borrow.Author.Tests.{lt-ltb, le-ltb, ltb-true, ltb-false, leb-true, le-leb, eqb-true, eq-eqb}
 use Rattle.words.specs.Words.{every}
 use Rattle.words.specs.Rows as wordRows
-use Rattle.words.proofs.Lists.{split, le-or-lt, and-true, and-join, every-at, every-all}
+use Rattle.words.proofs.Lists.{split, le-or-lt, and-true, every-at, every-all}
 use Rattle.words.proofs.Rows.{but-none, length-row, getD-row}
 use Rattle.settings.specs.declared.Settings.{Settings}
-use Rattle.settings.specs.Range.{InRange}
-use Rattle.layout.specs.Places.{node, nodeSize, sendAt, ackAt, taskAt}
-use Rattle.layout.specs.Rows.{byRow, width}
+use Rattle.layout.specs.Rows.{width}
 use Rattle.layout.specs.Asked.{Stretch}
-use Rattle.layout.proofs.NodeRows.{by-head, by-send, by-ack, by-task, by-block, start-send, start-ack, start-task, row-fits}
+use Rattle.layout.proofs.NodeRows.{by-send, by-ack, by-task, row-fits}
 use Rattle.blocks.proofs.Rows.{rows}
 use Rattle.queues.specs.declared.Kind.{Kind}
 use Rattle.queues.specs.Queue.{sendKind, ackKind, taskKind, start, items, itemAt, contents, Placed, Queue}
 use Rattle.queues.specs.Items.{live}
 use Rattle.queues.proofs.Ring.{Ring, ring-of, ring-queue, ring-contents}
-use Rattle.queues.proofs.InRow.{Room, room-send, room-ack, room-task, ring-up, ring-down}
+use Rattle.queues.proofs.InRow.{Room, ring-up, ring-down}
 use Rattle.sound.specs.Reading.{sendItems, ackItems, taskItems}
 use Rattle.sound.specs.Queues.{inShape}
 use Rattle.sound.specs.Positions.{held}

@@ -1,28 +1,28 @@
 -- A SOUND MEMORY REPRESENTS THE MACHINE THAT IT SPELLS. Assumes nothing.
-use mathlib.Core.Path.{_≡_, refl, sym, ap, ap₂, _∙_, subst}
+use mathlib.Core.Path.{_≡_, refl, sym, ap, _∙_, subst}
 use mathlib.Core.Bool.{Bool, true, false, cond, _&&_, _||_, not, false≢true}
-use mathlib.Core.List.{List, [], _∷_, _++_, map}
+use mathlib.Core.List.{List, [], _∷_, map}
 use mathlib.Core.Logic.{⊎-elim}
 use Prim.Native.Nat.{ℕ, zero, suc, _+_, _-_, _≤_, _<_}
 use native.Mathlib.Omega.{arith}
 use lib.Dec.{eqb, leb}
 use lib.ListN.{length, getD, take}
-use borrow.Author.Tests.{eq-eqb, ne-eqb, eqb-true, eqb-false, leb-true}
-use Rattle.words.specs.Words.{every, all, alike}
+use borrow.Author.Tests.{eq-eqb, ne-eqb, eqb-true, leb-true}
+use Rattle.words.specs.Words.{every, all}
 use Rattle.words.specs.Count.{occurs, sum, downFrom}
 use Rattle.words.proofs.Count.{down-in, down-out, down-zero}
-use Rattle.words.proofs.Lists.{split, same?, le-or-lt, and-true, every-at, alike-same}
+use Rattle.words.proofs.Lists.{same?, le-or-lt, and-true, every-at, alike-same}
 use Rattle.settings.specs.declared.Settings.{Settings}
 use Rattle.settings.specs.Range.{InRange}
-use Rattle.layout.specs.Places.{node, nodeSize, gapWord, sendAt, ackAt, taskAt}
+use Rattle.layout.specs.Places.{node, gapWord, sendAt, ackAt, taskAt}
 use Rattle.layout.specs.Rows.{width}
-use Rattle.layout.specs.Asked.{Stretch, Sized}
+use Rattle.layout.specs.Asked.{Stretch}
 use Rattle.layout.proofs.NodeRows.{start-send, start-ack, start-task, width-task, row-fits}
 use Rattle.words.proofs.Rows.{length-row}
-use Rattle.blocks.proofs.Chains.{Leads, firstIn}
-use Rattle.blocks.proofs.Rows.{rows, first-rows}
+use Rattle.blocks.proofs.Chains.{Leads}
+use Rattle.blocks.proofs.Rows.{first-rows}
 use Rattle.letters.proofs.Copies.{node-stretch}
-use Rattle.queues.specs.Queue.{sendKind, ackKind, taskKind, contents}
+use Rattle.queues.specs.Queue.{sendKind, ackKind, taskKind}
 use Rattle.queues.specs.Items.{live, gapFlag}
 use Rattle.queues.proofs.Items.{FirstLive}
 use Rattle.queues.proofs.Ring.{Ring}
@@ -31,12 +31,12 @@ use Rattle.sound.specs.Reading.{settingsIn, turnIn, stageOf, otherOf, heldOf, t
 use Rattle.sound.specs.Queues.{inShape, taskOf, isBlock, noneToItself, noneUnbound, firstLive, rightSend, rightAck, rightTask}
 use Rattle.sound.specs.Letters.{chainFrom, endsWell, wordsFrom, rightLetter}
 use Rattle.sound.specs.Positions.{namesOther, holdsCopy, rightPosition, held}
-use Rattle.sound.specs.Blocks.{chains, begun, standing, visits, eachOnce}
+use Rattle.sound.specs.Blocks.{visits, eachOnce}
 use Rattle.sound.specs.Sound.{sound}
-use Rattle.machine.specs.Machine.{Letter, gap, first, firsts, Live, wordsOf, Node, Machine, All, many}
+use Rattle.machine.specs.Machine.{Letter, gap, Live, wordsOf, Machine, All, many}
 use Rattle.machine.specs.Spelled.{letterFrom, shown, nodeFrom, machineOf}
 use Rattle.machine.specs.Core.{rowsOf, seat, line, kind, Held, Core}
-use Rattle.machine.specs.Represents.{Right, RightPosition, WellFormed, Shows, RepresentsAt, Represents}
+use Rattle.machine.specs.Represents.{Right, RightPosition, InOrder, WellFormed, Shows, Represents}
 use Rattle.machine.proofs.Places.{at-place, seat-send, line-send, seat-ack, line-ack, seat-task, line-task, kind-send, kind-ack, kind-task, ring-row, row-word, shown-hand, shown-transit, shown-send, shown-ack, shown-task, begun-low, begun-task}
 use Rattle.machine.proofs.Facts.{Facts, sound-facts}
 use Rattle.machine.proofs.Counts.{sum-none, empty, gap-held, lettersAt, count-visits}
@@ -334,11 +334,10 @@ module _ (s : Settings) (memory : List ℕ) (f : Facts s memory) where
       copy [] n e = absurd (omega arith)
       copy (x ∷ xs) n e = ap (λ (w : List ℕ). w ∷ []) (words-from s (node s memory j) (heldOf memory j) ∙ e ∙ sym (words-from s (node s memory (otherOf memory j)) x))
 
-  formed-of : WellFormed (tableIn memory) M
+  order-of : InOrder (tableIn memory) (nodeFrom s memory)
   unfolding nodeFrom
-  formed-of =
+  order-of =
       record {
-        turn = f .turn;
         still = λ i h. rw (shown-transit s memory i);
         live = letters-live;
         fronts = λ i q h g. rw (firsts-from s (node s memory i) r (shown s memory i (13 + q)), shown-task s memory i q g) (first-live (taskItems s memory i q) (task-parts i q h g .2));
@@ -346,6 +345,13 @@ module _ (s : Settings) (memory : List ℕ) (f : Facts s memory) where
         itself-ack = λ i h. rw (shown-ack s memory i i h, none-itself i i (ackItems s memory i i) (ack-parts i i h h .1) refl);
         unbound = λ i q h g z. rw (shown-task s memory i q g, empty (taskItems s memory i q) (eqb-true (length (taskItems s memory i q)) 0 (rw (eq-eqb (taskOf (tableIn memory) i q) 0 z) at (task-parts i q h g .1))));
         letters = letters-right;
+      }
+
+  formed-of : WellFormed (tableIn memory) M
+  formed-of =
+      record {
+        turn = f .turn;
+        order = order-of;
         positions = position-of;
       }
 

@@ -2,7 +2,7 @@
 use mathlib.Core.List.{List, [], _∷_, _++_}
 use Prim.Native.Nat.{ℕ, zero, suc}
 use Rattle.settings.specs.declared.Settings.{Settings}
-use Rattle.machine.specs.Machine.{Node, Machine}
+use Rattle.machine.specs.Machine.{Machine}
 
 -- 1, 2, .. n
 unfoldable pub upTo : ℕ → List ℕ

@@ -13,7 +13,7 @@ use Rattle.queues.proofs.Items.{FirstLive}
 use Rattle.sound.specs.Reading.{settingsIn, turnIn, stageOf, otherOf, heldOf, tableIn}
 use Rattle.sound.specs.Queues.{taskOf}
 use Rattle.sound.specs.Letters.{rightHeader, rightPlace}
-use Rattle.machine.specs.Machine.{Letter, firsts, Live, wordsOf, Node, Machine, All, transit}
+use Rattle.machine.specs.Machine.{firsts, Live, wordsOf, Node, Machine, All, transit}
 use Rattle.machine.specs.Core.{rowsOf, Core}
 
 -- 'a valid length .. and a header of bound tasks on their nodes', at place p of node i
@@ -35,27 +35,35 @@ pub record RightPosition (m : Machine) (j : ℕ) : Type 0 where
   pub hand : (m .stage j ≡ 2 → ⊥) → m .node j .letters 0 ≡ []
   pub copy : m .stage j ≡ 2 → map wordsOf (m .node j .letters 0) ≡ take 1 (map wordsOf (m .node (m .other j) .letters (1 + j)))
 
--- the rules of a sound memory that speak of letters, queues and positions, of a machine
+-- the rules of a sound memory that speak of letters and queues, of nodes with no letter on its way
+pub record InOrder (table : List ℕ) (N : ℕ → Node) : Type 0 where
+  pub still : (i : ℕ) → i < 6 → N i .letters transit ≡ []
+  -- gaps stand in task queues alone; 'a task queue's first item is not 0'
+  pub live : (i p : ℕ) → i < 6 → p < 13 → All Live (N i .letters p)
+  pub fronts : (i q : ℕ) → i < 6 → q < 64 → FirstLive (firsts (N i .letters (13 + q)))
+  -- 'a node's queues to itself and task queues bound to no task have no items'
+  pub itself : (i : ℕ) → i < 6 → N i .letters (1 + i) ≡ []
+  pub itself-ack : (i : ℕ) → i < 6 → N i .letters (7 + i) ≡ []
+  pub unbound : (i q : ℕ) → i < 6 → q < 64 → taskOf table i q ≡ 0 → N i .letters (13 + q) ≡ []
+  pub letters : (i p : ℕ) → i < 6 → p < 77 → All (λ L. Live L → Right table i p (L .words)) (N i .letters p)
+
+-- and those that speak of turn and positions
 pub record WellFormed (table : List ℕ) (m : Machine) : Type 0 where
   pub turn : m .turn ≤ 5
-  pub still : (i : ℕ) → i < 6 → m .node i .letters transit ≡ []
-  -- gaps stand in task queues alone; 'a task queue's first item is not 0'
-  pub live : (i p : ℕ) → i < 6 → p < 13 → All Live (m .node i .letters p)
-  pub fronts : (i q : ℕ) → i < 6 → q < 64 → FirstLive (firsts (m .node i .letters (13 + q)))
-  -- 'a node's queues to itself and task queues bound to no task have no items'
-  pub itself : (i : ℕ) → i < 6 → m .node i .letters (1 + i) ≡ []
-  pub itself-ack : (i : ℕ) → i < 6 → m .node i .letters (7 + i) ≡ []
-  pub unbound : (i q : ℕ) → i < 6 → q < 64 → taskOf table i q ≡ 0 → m .node i .letters (13 + q) ≡ []
-  pub letters : (i p : ℕ) → i < 6 → p < 77 → All (λ L. Live L → Right table i p (L .words)) (m .node i .letters p)
+  pub order : InOrder table (m .node)
   pub positions : (j : ℕ) → j < 6 → RightPosition m j
 
--- the words besides the rows of queues and blocks: whose turn, positions; and 'the gap flag is 1 exactly when an item is 0, otherwise 0'
+-- 'the gap flag is 1 exactly when an item is 0, otherwise 0'
+abbrev pub Flagged : (ℕ → ℕ → List ℕ) → (ℕ → Node) → Type 0
+Flagged R N = (i q : ℕ) → i < 6 → q < 64 → getD (R i (13 + q)) gapWord 0 ≡ gapFlag (firsts (N i .letters (13 + q)))
+
+-- the words besides the slots and the blocks: whose turn, positions, flags
 pub record Shows (s : Settings) (memory : List ℕ) (m : Machine) : Type 0 where
   pub turn : turnIn memory ≡ m .turn
   pub stage : (j : ℕ) → j < 6 → stageOf memory j ≡ m .stage j
   pub other : (j : ℕ) → j < 6 → otherOf memory j ≡ m .other j
   pub hand : (j : ℕ) → j < 6 → heldOf memory j ≡ getD (firsts (m .node j .letters 0)) 0 0
-  pub flags : (i q : ℕ) → i < 6 → q < 64 → getD (rowsOf s memory i (13 + q)) gapWord 0 ≡ gapFlag (firsts (m .node i .letters (13 + q)))
+  pub flags : Flagged (rowsOf s memory) (m .node)
 
 -- with settings s
 pub record RepresentsAt (s : Settings) (memory : List ℕ) (m : Machine) : Type 0 where

@@ -1,6 +1,5 @@
 // Plays a script of calls from standard input and prints a line for each call.
-use answers::Answer;
-use libc::STDOUT_FILENO;
+use script::Read;
 ghost use mathlib.Core.Path.{_≡_};
 ghost use Prim.Native.Nat.{_≤_, _<_};
 ghost use lib.ListN.{length};
@@ -13,88 +12,12 @@ pub struct Held {
     pub on: bool,
 }
 
-// What is read next: a word, the end, or an end in the midst of a word.
-pub enum Read {
-    Word(u32),
-    End,
-    Part,
-}
-
-// The arguments of a kind, and whether they were all there.
-pub struct Arguments {
-    pub whole: bool,
-    pub words: [u32; 5],
-}
-
-fn wide(x: u8) -> u32
-    ensures { λ r. ⌜ r ≤ 255 ⌝ }
-{
-    x as u32
-}
-
-// The next word, low byte first.
-fn read_word() -> Read {
-    let mut bytes = [0u8; 4];
-    let n = io::read_full(0, &mut bytes);
-    if n == 0 {
-        return Read::End;
-    }
-    if n < 4 {
-        return Read::Part;
-    }
-    let low = wide(bytes[0]) + wide(bytes[1]) * 256;
-    let high = wide(bytes[2]) + wide(bytes[3]) * 256;
-    Read::Word(low + high * 65536)
-}
-
-// The next n words.
-fn read_arguments(n: usize) -> Arguments
-    requires { ⌜ n ≤ 5 ⌝ }
-{
-    let mut words = [0u32; 5];
-    let mut i = 0;
-    while i < n {
-        let Read::Word(w) = read_word() else {
-            return Arguments {
-                whole: false,
-                words,
-            };
-        };
-        words[i] = w;
-        i += 1;
-    }
-    Arguments { whole: true, words }
-}
-
-// The sum by which a line shows all the words.
-fn sum(words: &[u32]) -> u64 {
-    let mut h: u64 = 7;
-    let mut i = 0;
-    while i < words.len() {
-        h = (h * 31 + words[i] as u64) % 4294967291;
-        i += 1;
-    }
-    h
-}
-
-fn print_number(n: u64, after: &[u8]) {
-    io::print_decimal(STDOUT_FILENO, n);
-    io::write_all(STDOUT_FILENO, after);
-}
-
-fn print_answer(a: Answer) {
-    print_number(a.number as u64, b" ");
-    print_number(a.first as u64, b" ");
-    print_number(a.second as u64, b" ");
-    print_number(a.third as u64, b" ");
-}
-
 // A bad script ends the run.
 fn bad(held: Held) -> Held
     requires { ⌜ Fits held ⌝ }
     ensures { λ r. ⌜ Fits r ⌝ }
 {
-    io::write_all(STDOUT_FILENO, b"bad\n");
+    script::print_bad();
     ended(held)
 }
 
@@ -127,20 +50,9 @@ fn play_set_up(memory: &mut [u32], table: &[u32], held: Held, words: [u32; 5]) -
         &table[0..t],
         &mut memory[0..m],
     );
-    print_answer(setup::number_of(answer));
-    print_number(sum(&memory[0..m]), b" 0\n");
+    script::print_answer(setup::number_of(answer));
+    script::print_number(script::sum(&memory[0..m]), b" 0\n");
     held
-}
-
-// Each word i becomes f + i.
-fn fill(words: &mut [u32], f: u32) {
-    let mut next = f;
-    let mut i = 0;
-    while i < words.len() {
-        words[i] = next;
-        next = std::num::wrapping_add_u32(next, 1);
-        i += 1;
-    }
 }
 
 // Kind 6: another memory.
@@ -153,25 +65,12 @@ fn play_memory(memory: &mut [u32], held: Held, n: u32, f: u32) -> Held
     if 512180 < m {
         return bad(held);
     }
-    fill(&mut memory[0..m], f);
+    script::fill(&mut memory[0..m], f);
     Held {
         memory: m,
         table: held.table,
         on: true,
     }
-}
-
-// Reads words until the part is full, and says whether they were all there.
-fn read_all(words: &mut [u32]) -> bool {
-    let mut i = 0;
-    while i < words.len() {
-        let Read::Word(w) = read_word() else {
-            return false;
-        };
-        words[i] = w;
-        i += 1;
-    }
-    true
 }
 
 // Kind 7: another table.
@@ -184,7 +83,7 @@ fn play_table(table: &mut [u32], held: Held, n: u32) -> Held
     if 1024 < t {
         return bad(held);
     }
-    if read_all(&mut table[0..t]) {
+    if script::read_all(&mut table[0..t]) {
         Held {
             memory: held.memory,
             table: t,
@@ -229,7 +128,7 @@ fn play(memory: &mut [u32], table: &mut [u32], held: Held, kind: u32) -> Held
     requires { ⌜ length (now table) ≡ 1024 ⌝ }
     ensures { λ r. ⌜ Fits r ⌝ }
 {
-    let read = read_arguments(count(kind));
+    let read = script::read_arguments(count(kind));
     if !read.whole {
         return bad(held);
     }
@@ -250,7 +149,7 @@ fn step(memory: &mut [u32], table: &mut [u32], held: Held) -> Held
     requires { ⌜ length (now table) ≡ 1024 ⌝ }
     ensures { λ r. ⌜ Fits r ⌝ }
 {
-    match read_word() {
+    match script::read_word() {
         Read::Word(kind) => play(memory, table, held, kind),
         Read::End => ended(held),
         Read::Part => bad(held),

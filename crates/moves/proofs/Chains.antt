@@ -2,9 +2,9 @@
 --     take-keeps     the first blocks of the free list go on their way as a letter
 --     write-keeps     the words of the letter on its way are written
 --     give-keeps     the chain of the letter on its way goes before the free list
-use mathlib.Core.Path.{_≡_, refl, sym, ap, _∙_, subst}
+use mathlib.Core.Path.{_≡_, sym, ap, _∙_, subst}
 use mathlib.Core.List.{List, [], _∷_, _++_}
-use Prim.Native.Nat.{ℕ, zero, suc, _+_, _-_, _*_, _≤_, _<_}
+use Prim.Native.Nat.{ℕ, _+_, _-_, _≤_, _<_}
 use native.Mathlib.Omega.{arith}
 use lib.ListN.{length, getD, take}
 use lib.Seq.{length-take-le}
@@ -12,17 +12,16 @@ use Rattle.words.specs.Count.{hit, occurs, downFrom}
 use Rattle.words.proofs.Count.{hit-self, occurs-append, down-range, down-once, sum-le}
 use Rattle.words.proofs.Lists.{put}
 use Rattle.settings.specs.declared.Settings.{Settings}
-use Rattle.layout.specs.Rows.{width}
 use Rattle.layout.proofs.NodeRows.{width-head, width-block}
 use Rattle.blocks.specs.Chain.{needs, Once}
-use Rattle.blocks.proofs.Chains.{Leads, linkIn, textIn, firstIn, leads-first, length-text}
+use Rattle.blocks.proofs.Chains.{Leads, textIn, firstIn, leads-first, length-text}
 use Rattle.blocks.proofs.Laws.{takenRows, givenRows, taken-other, taken-length, taken-text, taken-chain, taken-free, taken-count, given-other, given-length, given-free}
 use Rattle.letters.proofs.Texts.{fill, fill-other, fill-length, fill-leads, fill-read}
 use Rattle.letters.proofs.Rows.{needs-enough}
 use Rattle.machine.specs.Machine.{Letter, first, Node, All, many}
 use Rattle.machine.specs.Core.{Held, Core}
 use Rattle.moves.specs.Moves.{freed}
-use Rattle.moves.proofs.Core.{many-most, free-most, two-most, block-long, chain-change}
+use Rattle.moves.proofs.Core.{free-most, block-long, chain-change}
 
 module _ (s : Settings) (R : ℕ → ℕ → List ℕ) (N : ℕ → Node) (core : Core s R N) (i : ℕ) (h : i < 6) where
   head-long : length (R i 0) ≡ 2

@@ -1,25 +1,24 @@
 -- What keeps the core: a queue's row put anew with letters to or from the transit place; blocks of the free list and of the transit place anew; letters to or from the hand. Assumes nothing.
 --     queue-put, word-put     every move of a queue, of any kind and on any node
 --     chain-change     every move of blocks
---     pass-keeps     between the hand and the transit place: no row shows it
+--     pass-keeps, hold-keeps, resume-keeps     between the hand and the transit place: no row shows it
 --     head-put     the room count
 use mathlib.Core.Path.{_≡_, refl, sym, ap, _∙_}
-use mathlib.Core.List.{List, [], _∷_, _++_}
-use Prim.Native.Nat.{ℕ, zero, suc, _+_, _-_, _≤_, _<_}
+use mathlib.Core.List.{List, [], _∷_}
+use Prim.Native.Nat.{ℕ, _+_, _-_, _≤_, _<_}
 use native.Mathlib.Omega.{arith}
-use lib.ListN.{length, getD, set}
+use lib.ListN.{length, getD}
 use Rattle.words.specs.Count.{occurs, sum, downFrom}
 use Rattle.words.proofs.Count.{sum-put, sum-le, sum-two, down-range, down-once}
 use Rattle.words.proofs.Lists.{put, put-same, put-other, same?}
 use Rattle.settings.specs.declared.Settings.{Settings}
-use Rattle.settings.specs.Range.{InRange}
 use Rattle.layout.specs.Rows.{width}
 use Rattle.blocks.proofs.Chains.{Leads, firstIn, Same, leads-same}
 use Rattle.queues.proofs.Ring.{Ring}
-use Rattle.machine.specs.Machine.{Letter, first, firsts, Node, All, many}
+use Rattle.machine.specs.Machine.{Letter, firsts, Node, All, many}
 use Rattle.machine.specs.Core.{seat, line, kind, Held, Core}
 use Rattle.machine.proofs.Letters.{all-same}
-use Rattle.machine.proofs.Places.{seat-in, line-in}
+use Rattle.machine.proofs.Places.{line-in}
 use Rattle.moves.specs.Moves.{putRow, moved, freed}
 use Rattle.moves.proofs.Rows.{row-same, row-other, row-apart, row-long, place-one, moved-at, moved-transit, moved-other, freed-transit, freed-other, put-none, moved-none, freed-none}
 
@@ -248,3 +247,15 @@ module _ (s : Settings) (R : ℕ → ℕ → List ℕ) (N : ℕ → Node) (core 
         (λ b. refl) in
         let e : put N i (freed (N i) (N i .free) (N i .letters 77)) ≡ N = ap (put N i) (freed-none (N i)) ∙ put-none N i in
         rw e at c
+
+-- ---- the letter on its way is held in the hand; and the letter in the hand goes on its way
+module _ (s : Settings) (R : ℕ → ℕ → List ℕ) (N : ℕ → Node) (core : Core s R N) (i : ℕ) (h : i < 6) (L : Letter) where
+  pub hold-keeps : N i .letters 0 ≡ [] → N i .letters 77 ≡ L ∷ [] → Core s R (put N i (moved (N i) 0 (L ∷ []) []))
+  hold-keeps none one =
+      let a : All (Held s (R i)) (L ∷ []) = rw one at (core .letters i 77 h (omega arith)) in
+      pass-keeps s R N core i h (L ∷ []) [] a tt (λ b. omega (arith, ap (many b) one, ap (many b) none))
+
+  pub resume-keeps : N i .letters 0 ≡ L ∷ [] → N i .letters 77 ≡ [] → Core s R (put N i (moved (N i) 0 [] (L ∷ [])))
+  resume-keeps one none =
+      let a : All (Held s (R i)) (L ∷ []) = rw one at (core .letters i 0 h (omega arith)) in
+      pass-keeps s R N core i h [] (L ∷ []) tt a (λ b. omega (arith, ap (many b) one, ap (many b) none))

@@ -7,3 +7,6 @@ pub mod Memory
 pub mod Words
 pub mod Trace
 pub mod Calls
+pub mod Formed
+pub mod Works
+pub mod Kept

@@ -1,29 +1,33 @@
 -- A node's stretch put anew in a memory: its rows, its words before the stretches, its length. Assumes nothing.
---     rows-with     the rows of that node are the new stretch's, and no other row changes
+--     rows-with     the rows of that node are the new stretch's, and no other row changes (rows-away)
 --     row-with     a stretch that differs in one row
 --     node-with, with-with     what was put is there, and may be put anew
 --     with-long, with-word, with-settings, with-table     length, and words before the stretches, stay
-use mathlib.Core.Path.{_≡_, refl, sym, ap, ap₂, _∙_, fun-ext}
+--     set-node, set-rows, set-settings, set-table     a word before the stretches stored
+use mathlib.Core.Path.{_≡_, sym, ap, ap₂, _∙_, fun-ext}
 use mathlib.Core.List.{List}
-use Prim.Native.Nat.{ℕ, zero, suc, _+_, _-_, _*_, _≤_, _<_}
+use Prim.Native.Nat.{ℕ, _+_, _-_, _≤_, _<_}
 use native.Mathlib.Omega.{arith}
-use lib.ListN.{length, getD, take, drop}
-use lib.Seq.{getD-take}
-use Rattle.words.specs.Words.{part, splice}
-use Rattle.words.specs.Rows.{start, row}
+use lib.ListN.{length, getD, set, take}
+use lib.Seq.{getD-take, getD-set-other, drop-set-lt}
+use Rattle.words.specs.Words.{splice}
+use Rattle.words.specs.Rows.{row}
 use Rattle.words.proofs.Lists.{put, put-same, put-other, same?}
 use Rattle.words.proofs.Parts.{length-splice, take-splice, splice-splice, part-before}
 use Rattle.words.proofs.Rows.{But, row-splice}
 use Rattle.settings.specs.declared.Settings.{Settings}
-use Rattle.settings.specs.Made.{settingsOf}
 use Rattle.layout.specs.Places.{nodeSize, nodeAt, nodeEnd, memorySize, node, withNode}
 use Rattle.layout.specs.Rows.{width, memoryWidth}
-use Rattle.layout.specs.Asked.{Sized}
 use Rattle.layout.proofs.MemoryRows.{stretch-fits, start-stretch, width-stretch}
 use Rattle.blocks.proofs.Rows.{rows}
 use Rattle.sound.specs.Reading.{settingsIn, tableIn}
 use Rattle.machine.specs.Core.{rowsOf}
 use Rattle.moves.specs.Moves.{putRow}
+
+-- a stretch starts behind the words before the stretches
+stretch-from : (s : Settings) (i : ℕ) → 536 ≤ nodeAt s i
+unfolding nodeAt
+stretch-from s i = omega arith
 
 -- a node's stretch is a row of the memory
 pub node-row : (s : Settings) (memory : List ℕ) (k : ℕ) → node s memory k ≡ row (memoryWidth s) memory (9 + k)
@@ -61,6 +65,9 @@ module _ (s : Settings) (memory : List ℕ) (size : length memory ≡ memorySize
   unfolding putRow
   row-with r w b = rows-with ∙ ap (put (rowsOf s memory) j) (b .rows)
 
+  pub rows-away : (k r : ℕ) → (k ≡ j → ⊥) → rowsOf s (withNode s memory j l) k r ≡ rowsOf s memory k r
+  rows-away k r n = ap (λ (Q : ℕ → ℕ → List ℕ). Q k r) rows-with ∙ ap (λ (g : ℕ → List ℕ). g r) (put-other (rowsOf s memory) j (rows s l) k n)
+
   pub node-with : node s (withNode s memory j l) j ≡ l
   node-with = with-node j ∙ put-same (node s memory) j l
 
@@ -72,8 +79,7 @@ module _ (s : Settings) (memory : List ℕ) (size : length memory ≡ memorySize
   with-long = length-splice memory (nodeAt s j) (nodeEnd s j) (omega arith) inside l fits
 
   front : 536 ≤ nodeAt s j
-  unfolding nodeAt
-  front = omega arith
+  front = stretch-from s j
 
   pub with-word : (k : ℕ) → k < 536 → getD (withNode s memory j l) k 0 ≡ getD memory k 0
   with-word k g =
@@ -89,3 +95,21 @@ module _ (s : Settings) (memory : List ℕ) (size : length memory ≡ memorySize
 
   pub with-table : tableIn (withNode s memory j l) ≡ tableIn memory
   with-table = part-before memory (nodeAt s j) (nodeEnd s j) (omega arith) inside l fits 24 536 (omega arith) front
+
+-- ---- A WORD BEFORE THE STRETCHES STORED: whose turn, a position
+module _ (s : Settings) (memory : List ℕ) (k v : ℕ) (h : k < 536) where
+  pub set-node : (i : ℕ) → node s (set memory k v) i ≡ node s memory i
+  set-node i = let f = stretch-from s i in ap (take (nodeEnd s i - nodeAt s i)) (drop-set-lt (nodeAt s i) memory k v (omega arith))
+
+  pub set-rows : rowsOf s (set memory k v) ≡ rowsOf s memory
+  set-rows = fun-ext (λ i. ap (rows s) (set-node i))
+
+-- before the table, behind the settings
+module _ (memory : List ℕ) (k v : ℕ) (lo : 5 ≤ k) (hi : k < 24) where
+  pub set-settings : settingsIn (set memory k v) ≡ settingsIn memory
+  set-settings =
+      let g : (j : ℕ) → j < 5 → getD (set memory k v) j 0 ≡ getD memory j 0 = λ j a. getD-set-other memory k j v 0 (λ e. omega arith) in
+      rw (g 0 (omega arith), g 1 (omega arith), g 2 (omega arith), g 3 (omega arith), g 4 (omega arith))
+
+  pub set-table : tableIn (set memory k v) ≡ tableIn memory
+  set-table = ap (take (536 - 24)) (drop-set-lt 24 memory k v hi)

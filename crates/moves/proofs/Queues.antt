@@ -1,29 +1,28 @@
 -- The moves of queues, each by `queue-put`: append, an append that finds no room, drop; of a task queue also closing gaps and taking a letter out. Assumes nothing.
 --     append-keeps, full-keeps, drop-keeps     any queue, of whatever kind and on whatever node its row stands
 --     task-append, task-append-gap, task-append-full, task-take     a task queue, with its flag
-use mathlib.Core.Path.{_≡_, refl, sym, ap, _∙_, subst}
+use mathlib.Core.Path.{_≡_, refl, ap, _∙_}
 use mathlib.Core.Bool.{cond}
 use mathlib.Core.List.{List, [], _∷_, _++_}
 use Prim.Native.Nat.{ℕ, zero, suc, _+_, _-_, _≤_, _<_}
 use native.Mathlib.Omega.{arith}
 use lib.Dec.{eqb}
 use lib.ListN.{length, getD, set, length-set}
-use Rattle.words.specs.Count.{occurs, downFrom}
-use Rattle.words.proofs.Count.{down-range, down-zero}
+use Rattle.words.proofs.Count.{down-zero}
 use Rattle.words.proofs.Lists.{put, both}
 use Rattle.settings.specs.declared.Settings.{Settings}
 use Rattle.queues.specs.declared.Kind.{Kind}
 use Rattle.queues.specs.Queue.{taskKind, items, itemAt, slotAt}
 use Rattle.queues.specs.Moves.{appended, dropped, counted}
-use Rattle.queues.specs.Items.{live, gapFlag, without}
+use Rattle.queues.specs.Items.{gapFlag}
 use Rattle.queues.proofs.Ring.{Ring, ring-added, ring-room, ring-full, ring-counted, ring-dropped}
 use Rattle.queues.proofs.Tasks.{TaskRing, task-counted}
 use Rattle.queues.proofs.Views.{length-appended, length-dropped}
-use Rattle.gaps.specs.Close.{laid, closed, cramped, roomy, taskAppended}
+use Rattle.gaps.specs.Close.{closed, cramped, roomy, taskAppended}
 use Rattle.gaps.proofs.Closed.{length-laid, append-room, append-gap, append-full}
 use Rattle.taking.specs.Take.{cleared, firstOut, out, flagged, takenOut}
 use Rattle.taking.proofs.Taken.{taken-task}
-use Rattle.machine.specs.Machine.{Letter, gap, first, firsts, Live, Node, All, many}
+use Rattle.machine.specs.Machine.{Letter, gap, first, firsts, Node, All, many}
 use Rattle.machine.specs.Core.{seat, line, kind, Held, Core}
 use Rattle.machine.proofs.Letters.{all-at, all-append, many-append, firsts-append, length-firsts}
 use Rattle.machine.proofs.Places.{seat-task, line-task, kind-task}

@@ -1,11 +1,11 @@
 -- One row put anew, and that two places never share a row. Assumes nothing.
-use mathlib.Core.Path.{_≡_, refl, sym, ap, _∙_, fun-ext}
-use mathlib.Core.List.{List, [], _∷_}
-use Prim.Native.Nat.{ℕ, zero, suc, _+_, _≤_, _<_}
+use mathlib.Core.Path.{_≡_, sym, ap, _∙_, fun-ext}
+use mathlib.Core.List.{List, []}
+use Prim.Native.Nat.{ℕ, _+_, _≤_, _<_}
 use native.Mathlib.Omega.{arith}
 use lib.ListN.{length}
 use Rattle.words.proofs.Lists.{put, put-same, put-other, same?}
-use Rattle.machine.specs.Machine.{Letter, Node, transit}
+use Rattle.machine.specs.Machine.{Letter, Node}
 use Rattle.machine.specs.Core.{seat, line}
 use Rattle.machine.proofs.Places.{at-place, seat-send, line-send, seat-ack, line-ack, seat-task, line-task}
 use Rattle.moves.specs.Moves.{putRow, moved, freed}

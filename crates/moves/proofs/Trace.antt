@@ -1,9 +1,8 @@
 -- A letter in and out of the transit place leaves no trace there. Assumes nothing.
-use mathlib.Core.Path.{_≡_, refl, sym, ap, ap₂, _∙_, fun-ext}
-use mathlib.Core.List.{List, [], _∷_}
+use mathlib.Core.Path.{_≡_, sym, ap, _∙_, fun-ext}
+use mathlib.Core.List.{List, []}
 use Prim.Native.Nat.{ℕ}
-use native.Mathlib.Omega.{arith}
-use Rattle.words.proofs.Lists.{put, put-same, put-other, put-put, same?}
+use Rattle.words.proofs.Lists.{put, put-other, put-put, same?}
 use Rattle.machine.specs.Machine.{Letter, Node}
 use Rattle.moves.specs.Moves.{moved, freed, placed}
 

@@ -1,23 +1,22 @@
 -- The goal's queue is as it was where blocks are taken and a letter is written; what each function on the goal leaves. Assumes nothing.
 use mathlib.Core.Path.{_≡_, refl, sym, ap, _∙_}
-use mathlib.Core.Bool.{Bool, true, false, cond}
-use mathlib.Core.List.{List, _∷_}
+use mathlib.Core.Bool.{true, false}
+use mathlib.Core.List.{List}
 use Prim.Native.Nat.{ℕ, zero, suc, _+_, _-_, _*_, _≤_, _<_}
 use native.Mathlib.Nat.{zero-mul}
 use native.Mathlib.Omega.{arith}
-use lib.Dec.{leb}
 use lib.ListN.{length, getD}
 use borrow.Author.Tests.{leb-true}
-use Rattle.words.specs.Rows.{start, row}
+use Rattle.words.specs.Rows.{start}
+use Rattle.words.proofs.Rows.{but-none}
 use Rattle.settings.specs.declared.Settings.{Settings}
-use Rattle.layout.specs.Places.{firstFreeAt, roomAt, sendAt, taskAt}
+use Rattle.layout.specs.Places.{firstFreeAt, sendAt, taskAt}
 use Rattle.layout.specs.Rows.{width}
 use Rattle.layout.specs.Asked.{Stretch}
 use Rattle.layout.proofs.NodeRows.{start-send, start-task, row-fits}
 use Rattle.blocks.specs.Chain.{needs, chain, free, Within}
 use Rattle.blocks.specs.Moves.{enough, taken, takenAnswer}
-use Rattle.blocks.specs.Asked.{FreeList, Takes}
-use Rattle.blocks.specs.declared.Taken.{Taken}
+use Rattle.blocks.specs.Asked.{Takes}
 use Rattle.blocks.specs.declared.Taken.the-variants.{First, Short}
 use Rattle.blocks.proofs.Rows.{rows}
 use Rattle.blocks.proofs.Moves.{taken-stretch, take-answer, take-chained, take-row}
@@ -25,12 +24,12 @@ use Rattle.letters.specs.Letter.{written}
 use Rattle.letters.specs.Asked.{Lies}
 use Rattle.letters.proofs.Rows.{needs-enough}
 use Rattle.letters.proofs.Laws.{written-stretch, write-row}
-use Rattle.queues.specs.Queue.{sendKind, Queue}
-use Rattle.queues.specs.Tasks.{TaskQueue}
-use Rattle.queues.specs.Moves.{counted, appended}
-use Rattle.queues.proofs.InRow.{room-send, room-task, queue-kept, task-kept}
-use Rattle.gaps.specs.Close.{taskAppended}
-use Rattle.posting.specs.Post.{Posted, hasRoom, appendedTo, fullOf, putIn, posted}
+use Rattle.queues.specs.Queue.{sendKind}
+use Rattle.queues.specs.Moves.{counted, appended, appendAnswer}
+use Rattle.queues.proofs.InRow.{room-send, room-task, but-answer, queue-kept, task-kept}
+use Rattle.gaps.specs.Close.{taskAppended, taskAnswer}
+use Rattle.gaps.proofs.InRow.{but-task-answer}
+use Rattle.posting.specs.Post.{Posted, tookIt, hasRoom, appendedTo, fullOf, putIn, posted}
 use Rattle.posting.specs.Asked.{Queued, Aims, Posts, Roomy}
 use Rattle.posting.specs.declared.Goal.{Goal}
 use Rattle.posting.specs.declared.Goal.the-variants.{Task, Node}
@@ -63,6 +62,26 @@ module _ (s : Settings) (l m : List ℕ) (u : Stretch s l) (v : Stretch s m) (e 
             (room-send s (u .range) (1 + k) (omega arith) (omega arith))
             (rw (start-send s k (omega arith)) (w .1))),
       )
+
+  -- and the same room
+  pub room-kept : (goal : Goal) → Queued s l goal → hasRoom s m goal ≡ hasRoom s l goal
+  unfolding Queued hasRoom
+  room-kept (Task q) w =
+      let h = w .0 in
+      let o = room-task s (u .range) (13 + q) (omega arith) (omega arith) in
+      let g : taskAnswer s m (start (width s) (13 + q)) ≡ taskAnswer s l (start (width s) (13 + q)) =
+      but-task-answer (width s) m (13 + q) s o (but-none (width s) m (13 + q))
+      ∙ ap (λ (p : List ℕ). taskAnswer s p 0) (e (13 + q) (omega arith) (omega arith))
+      ∙ sym (but-task-answer (width s) l (13 + q) s o (but-none (width s) l (13 + q))) in
+      ap tookIt (rw (start-task s q (omega arith)) at g)
+  room-kept (Node k) w =
+      let h = w .0 in
+      let o = room-send s (u .range) (1 + k) (omega arith) (omega arith) in
+      let g : appendAnswer (sendKind s) m (start (width s) (1 + k)) ≡ appendAnswer (sendKind s) l (start (width s) (1 + k)) =
+      but-answer (width s) m (1 + k) (sendKind s) o (but-none (width s) m (1 + k))
+      ∙ ap (λ (p : List ℕ). appendAnswer (sendKind s) p 0) (e (1 + k) (omega arith) (omega arith))
+      ∙ sym (but-answer (width s) l (1 + k) (sendKind s) o (but-none (width s) l (1 + k))) in
+      ap tookIt (rw (start-send s k (omega arith)) at g)
 
 -- a letter needs a block at least
 pub needs-some : (s : Settings) (node : List ℕ) (goal : Goal) (n : ℕ) → Posts s node goal n → 1 ≤ needs s n
@@ -109,25 +128,32 @@ module _ (s : Settings) (node : List ℕ) (goal : Goal) (ws : List ℕ) (p : Roo
   within-new : Within (s .m) (chain s new (needs s (length ws)) first)
   within-new = take-chained s node st (p .posts .free) n some-n has .within
 
+  after-take : Stretch s new
+  after-take = taken-stretch s node st n
+
+  after-write : Stretch s (written s new first ws)
+  after-write = written-stretch s new after-take first ws within-new
+
+  same-rows : (r : ℕ) → 1 ≤ r → r < 77 → rows s (written s new first ws) r ≡ rows s node r
+  same-rows r h k = write-row s new after-take first ws within-new r k ∙ take-row s node st (p .posts .free) n some-n has r h k
+
+  -- A LETTER THAT IS PUT IN finds the room that was there before
+  pub put-room : hasRoom s (written s (taken s node (needs s (length ws))) (getD node firstFreeAt 0) ws) goal ≡ hasRoom s node goal
+  put-room = room-kept s node (written s new first ws) st after-write same-rows goal (p .posts .aims .queue)
+
   -- the stretch a after the blocks are taken, and the first of them
   module _ (b : ℕ) (a : List ℕ) (e : takenAnswer s node (needs s (length ws)) ≡ First b) (f : a ≡ taken s node (needs s (length ws))) where
     is-first : b ≡ getD node firstFreeAt 0
     is-first = cc (put-answer)
 
     pub put-lies : Lies s a (length ws) b
-    put-lies = rw (f, is-first) (record { walks = record { stretch = taken-stretch s node st n; within = within-new }; most = p .posts .most })
+    put-lies = rw (f, is-first) (record { walks = record { stretch = after-take; within = within-new }; most = p .posts .most })
 
     -- THE GOAL is as it was
     pub put-aims : (w : List ℕ) → w ≡ written s a b ws → Aims s w goal
     put-aims w g =
-        let sn = taken-stretch s node st n in
-        let sw = written-stretch s new sn first ws within-new in
         rw (g, f, is-first)
-        (record {
-          stretch = sw;
-          queue = queued-kept s node (written s new first ws) st sw
-              (λ r h k. write-row s new sn first ws within-new r k ∙ take-row s node st (p .posts .free) n some-n has r h k) goal (p .posts .aims .queue);
-        })
+        (record { stretch = after-write; queue = queued-kept s node (written s new first ws) st after-write same-rows goal (p .posts .aims .queue) })
 
     pub put-is : (w c : List ℕ) → w ≡ written s a b ws → c ≡ appendedTo s w goal b → c ≡ putIn s node goal ws
     unfolding putIn

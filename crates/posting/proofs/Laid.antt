@@ -1,9 +1,9 @@
 -- A letter's words laid one by one: the header's five, then the body. Assumes nothing.
-use mathlib.Core.Path.{_≡_, refl, sym, ap, _∙_}
+use mathlib.Core.Path.{_≡_, refl, ap, _∙_}
 use mathlib.Core.List.{List, [], _∷_, _++_, append-nil}
-use Prim.Native.Nat.{ℕ, zero, suc, _+_, _-_, _≤_, _<_}
+use Prim.Native.Nat.{ℕ, _+_, _-_}
 use native.Mathlib.Omega.{arith}
-use lib.ListN.{length, set, take, drop, drop-of-length-le, length-set}
+use lib.ListN.{length, set, drop-of-length-le, length-set}
 use borrow.Rule.Slice.PartMut.{midOf, putMid, same-len-mid}
 use Rattle.words.proofs.Parts.{back}
 use Rattle.posting.specs.Letter.{letterOf}

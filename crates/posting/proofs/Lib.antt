@@ -1,3 +1,4 @@
 pub mod Rooms
 pub mod Frames
 pub mod Laid
+pub mod Examples

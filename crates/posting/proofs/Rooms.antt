@@ -1,12 +1,11 @@
 -- Whether the free list has the blocks and the goal takes one more, by the tests on the way. Assumes nothing.
-use mathlib.Core.Path.{_≡_, refl, sym, ap, _∙_}
-use mathlib.Core.Bool.{Bool, true, false, cond, not}
+use mathlib.Core.Path.{_≡_, sym, _∙_}
+use mathlib.Core.Bool.{Bool, true, not}
 use mathlib.Core.List.{List}
 use Prim.Native.Nat.{ℕ, _+_, _-_, _≤_, _<_}
 use native.Mathlib.Omega.{arith}
 use lib.Dec.{eqb, ltb}
 use lib.ListN.{length, getD}
-use borrow.Author.Tests.{eq-eqb, ne-eqb}
 use Rattle.words.proofs.Lists.{split, same?}
 use Rattle.settings.specs.declared.Settings.{Settings}
 use Rattle.layout.specs.Places.{gapWord, sendAt, taskAt}
@@ -15,7 +14,6 @@ use Rattle.blocks.specs.Moves.{enough}
 use Rattle.blocks.specs.Asked.{Takes}
 use Rattle.blocks.proofs.Taking.{too-few, has-enough}
 use Rattle.queues.specs.Queue.{sendKind, taskKind, items, contents, Queue}
-use Rattle.queues.specs.Items.{gapFlag}
 use Rattle.queues.specs.Tasks.{TaskQueue}
 use Rattle.queues.specs.Moves.{appendAnswer}
 use Rattle.queues.proofs.Items.{gap-small}

@@ -2,9 +2,8 @@
 use blocks::Taken;
 use settings::Settings;
 ghost use mathlib.Core.Path.{_≡_};
-ghost use Prim.Native.Nat.{ℕ, _+_, _≤_, _<_};
+ghost use Prim.Native.Nat.{_+_, _≤_};
 ghost use lib.ListN.{length};
-ghost use Rattle.layout.specs.Places.{taskAt, sendAt};
 ghost use Rattle.layout.specs.Numbers.{headerWords, greatestLength};
 ghost use Rattle.blocks.specs.Asked.{Takes};
 ghost use Rattle.blocks.specs.Moves.{enough};
@@ -133,6 +132,7 @@ pub fn post(node: &mut [u32], s: Settings, goal: Goal, words: &[u32]) -> Sent
     ensures { λ r. ⌜ record { answer = r; stretch = now (node .exit) } ≡ posted s (now (node .entry)) goal (now (words .entry)) ⌝ }
 {
     let n = blocks::needs_of(s, words.len());
+    let took = n as u32;
     if !has_blocks(node, s, n) {
         queues::count_up(node, 1);
         return Sent::TooFewBlocks;
@@ -142,7 +142,7 @@ pub fn post(node: &mut [u32], s: Settings, goal: Goal, words: &[u32]) -> Sent
         return Sent::QueueFull;
     }
     put_in(node, s, goal, words);
-    Sent::Done(n as u32)
+    Sent::Done(took)
 }
 
 // The words of a letter: the header, then the body.

@@ -3,3 +3,4 @@ pub mod Chains
 pub mod Outcomes
 pub mod Seats
 pub mod Sounds
+pub mod Refused

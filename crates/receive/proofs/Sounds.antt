@@ -28,7 +28,7 @@ use Rattle.receive.specs.Take.{Took, took}
 use Rattle.receive.specs.Outcome.{Outcome, collected, receive}
 use Rattle.receive.specs.Asked.{Whole, Kept, Seated, Collects}
 use Rattle.receive.proofs.Outcomes.{left}
-use Rattle.receive.proofs.Seats.{seat-bound, bound-seat}
+use Rattle.tasks.proofs.Laws.{told-at, seat-below}
 
 -- ---- a sound memory
 module _ (m : List ℕ) (e : sound m ≡ true) (i q : ℕ) (h : i < 6) (g : q < 64) where
@@ -67,8 +67,8 @@ module _ (m : List ℕ) (e : sound m ≡ true) (i q : ℕ) (h : i < 6) (g : q < 
 -- where a bound task sits
 pub seat-seated : (m : List ℕ) → sound m ≡ true → (task i q : ℕ) → seatOf (tableIn m) task ≡ At i q → Seated m i q
 seat-seated m e task i q f =
-    let b = seat-bound (tableIn m) task i q f in
-    let r = bound-seat (tableIn m) task (gives-table m e) (b .0) in
+    let b = told-at (tableIn m) task i q f in
+    let r = seat-below (tableIn m) task (gives-table m e) (b .0) in
     sound-seated m e i q (omega (arith, b .1 .0, r .0)) (omega (arith, b .1 .1, r .1))
 
 -- its words before the stretches

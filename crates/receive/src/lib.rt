@@ -37,10 +37,10 @@ pub fn number_of(answer: Received) -> Answer
     ensures { λ r. ⌜ r ≡ told answer ⌝ }
 {
     match answer {
-        Received::Done(source, length) => Answer {
+        Received::Done(source, words) => Answer {
             number: 0,
             first: source,
-            second: length,
+            second: words,
             third: 0,
         },
         Received::NotSound => answers::bare(1),
@@ -135,13 +135,7 @@ fn take_at(node: &mut [u32], s: Settings, q: usize, k: usize, out: &mut [u32]) -
 }
 
 // Takes the first letter from the source, or the first of all where the source is 0, out of task queue q.
-pub fn take_letter(
-    node: &mut [u32],
-    s: Settings,
-    q: usize,
-    source: u32,
-    out: &mut [u32],
-) -> Received
+fn take_letter(node: &mut [u32], s: Settings, q: usize, source: u32, out: &mut [u32]) -> Received
     requires { ⌜ Kept s (now node) q ⌝ }
     ensures { λ r. ⌜ record { answer = r; stretch = now (node .exit); out = now (out .exit) } ≡ took s (now (node .entry)) q source (now (out .entry)) ⌝ }
 {
@@ -153,26 +147,12 @@ pub fn take_letter(
     }
 }
 
-// The settings that the first five words hold.
-fn settings_of(memory: &[u32]) -> Settings
-    requires { ⌜ settingWords ≤ length (now memory) ⌝ }
-    ensures { λ r. ⌜ r ≡ settingsIn (now (memory .entry)) ⌝ }
-{
-    Settings {
-        b: memory[0] as usize,
-        m: memory[1] as usize,
-        s: memory[2] as usize,
-        a: memory[3] as usize,
-        t: memory[4] as usize,
-    }
-}
-
 // Takes a letter out of queue q of node i, whose stretch is lent.
 fn collect(memory: &mut [u32], i: usize, q: usize, source: u32, out: &mut [u32]) -> Received
     requires { ⌜ Seated (now memory) i q ⌝ }
     ensures { λ r. ⌜ Collects (now (memory .entry)) i q source (now (out .entry)) r (now (memory .exit)) (now (out .exit)) ⌝ }
 {
-    let s = settings_of(memory);
+    let s = sound::settings_in(memory);
     let a = layout::node_at(s, i);
     let e = a + layout::node_size(s);
     take_letter(&mut memory[a..e], s, q, source, out)
@@ -194,7 +174,7 @@ fn is_known(memory: &[u32], source: u32) -> bool
 }
 
 // Receive, on a sound memory.
-pub fn receive_sound(memory: &mut [u32], destination: u32, source: u32, out: &mut [u32]) -> Received
+fn receive_sound(memory: &mut [u32], destination: u32, source: u32, out: &mut [u32]) -> Received
     requires { ⌜ sound (now memory) ≡ true ⌝ }
     ensures { λ r. ⌜ record { answer = r; memory = now (memory .exit); out = now (out .exit) } ≡ receive (now (memory .entry)) destination source (now (out .entry)) ⌝ }
 {
@@ -206,4 +186,14 @@ pub fn receive_sound(memory: &mut [u32], destination: u32, source: u32, out: &mu
         return Received::SourceNotBound;
     }
     collect(memory, i as usize, q as usize, source, out)
+}
+
+// Receive, for any memory, any two task numbers and any out.
+pub fn receive(memory: &mut [u32], destination: u32, source: u32, out: &mut [u32]) -> Received
+    ensures { λ r. ⌜ record { answer = r; memory = now (memory .exit); out = now (out .exit) } ≡ receive (now (memory .entry)) destination source (now (out .entry)) ⌝ }
+{
+    if !soundness::is_sound(memory) {
+        return Received::NotSound;
+    }
+    receive_sound(memory, destination, source, out)
 }

@@ -1,10 +1,10 @@
 -- The outcome of a send, by the tests on the way, and what a sound memory gives to it. Assumes nothing.
-use mathlib.Core.Path.{_≡_, refl, sym, ap, ap₂, _∙_}
-use mathlib.Core.Bool.{Bool, true, false, cond, _&&_}
+use mathlib.Core.Path.{_≡_, sym, ap, ap₂, _∙_}
+use mathlib.Core.Bool.{true, false}
 use mathlib.Core.List.{List}
 use Prim.Native.Nat.{ℕ, _+_, _-_, _≤_, _<_}
 use native.Mathlib.Omega.{arith}
-use lib.Dec.{eqb, leb}
+use lib.Dec.{leb}
 use lib.ListN.{length, take}
 use lib.Seq.{length-take-le}
 use borrow.Author.Tests.{le-leb, lt-leb, leb-true, eq-eqb, ne-eqb}
@@ -13,7 +13,7 @@ use Rattle.words.specs.Words.{part, splice}
 use Rattle.words.proofs.Lists.{same?, and-true}
 use Rattle.words.proofs.Parts.{back}
 use Rattle.settings.specs.declared.Settings.{Settings}
-use Rattle.layout.specs.Places.{nodesAt, node, nodeAt, nodeSize, memorySize}
+use Rattle.layout.specs.Places.{nodesAt, node, nodeAt, nodeSize}
 use Rattle.layout.specs.Numbers.{headerWords}
 use Rattle.layout.proofs.Fits.{nodes-fit}
 use Rattle.tasks.specs.Table.{nodeOf, queueOf, isBound}
@@ -27,7 +27,6 @@ use Rattle.sound.proofs.Gives.{gives-table, gives-sized, gives-stretch, gives-s
 use Rattle.posting.specs.Letter.{letterOf}
 use Rattle.posting.specs.Post.{Posted, posted}
 use Rattle.posting.specs.Asked.{Queued, Posts}
-use Rattle.posting.specs.declared.Header.{Header}
 use Rattle.posting.specs.declared.Goal.{Goal}
 use Rattle.posting.specs.declared.Goal.the-variants.{Task, Node}
 use Rattle.posting.specs.declared.Sent.{Sent}

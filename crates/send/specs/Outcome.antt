@@ -14,7 +14,7 @@ use Rattle.sound.specs.Sound.{sound}
 use Rattle.answers.specs.declared.Answer.{Answer}
 use Rattle.answers.specs.Numbers.{bare, done, notSound, firstNotBound, otherNotBound, bodyTooLong, tooFewBlocks, queueFull}
 use Rattle.posting.specs.Letter.{letterOf, headerOf}
-use Rattle.posting.specs.Post.{Posted, posted}
+use Rattle.posting.specs.Post.{posted}
 use Rattle.posting.specs.declared.Goal.{Goal}
 use Rattle.posting.specs.declared.Goal.the-variants.{Task, Node}
 use Rattle.posting.specs.declared.Sent.{Sent}

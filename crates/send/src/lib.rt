@@ -77,7 +77,7 @@ fn send_letter(memory: &mut [u32], s: Settings, header: Header, goal: Goal, body
 }
 
 // Send, in a sound memory.
-pub fn send_sound(memory: &mut [u32], source: u32, destination: u32, body: &[u32]) -> Sent
+fn send_sound(memory: &mut [u32], source: u32, destination: u32, body: &[u32]) -> Sent
     requires { ⌜ sound (now memory) ≡ true ⌝ }
     ensures { λ r. ⌜ record { answer = r; memory = now (memory .exit) } ≡ send (now (memory .entry)) source destination (now (body .entry)) ⌝ }
 {
@@ -118,4 +118,14 @@ pub fn number_of(answer: Sent) -> Answer
         Sent::TooFewBlocks => answers::bare(5),
         Sent::QueueFull => answers::bare(6),
     }
+}
+
+// Send, for any memory, any two task numbers and any body.
+pub fn send(memory: &mut [u32], source: u32, destination: u32, body: &[u32]) -> Sent
+    ensures { λ r. ⌜ record { answer = r; memory = now (memory .exit) } ≡ send (now (memory .entry)) source destination (now (body .entry)) ⌝ }
+{
+    if !soundness::is_sound(memory) {
+        return Sent::NotSound;
+    }
+    send_sound(memory, source, destination, body)
 }

@@ -6,23 +6,18 @@ use Prim.Native.Nat.{ℕ, _+_, _*_, _<_}
 use native.Mathlib.Omega.{arith}
 use lib.ListN.{length, getD}
 use Rattle.settings.specs.declared.Settings.{Settings}
-use Rattle.layout.specs.Places.{nodeSize, gapWord, withNode}
+use Rattle.layout.specs.Places.{nodeSize, withNode}
 use Rattle.tasks.specs.Table.{rightTable}
-use Rattle.queues.specs.Items.{gapFlag}
 use Rattle.sound.specs.Reading.{settingsIn, tableIn}
 use Rattle.sound.specs.Sound.{sound}
 use Rattle.machine.specs.Machine.{Letter, firsts, Node, Machine}
 use Rattle.machine.specs.Spelled.{machineOf}
 use Rattle.machine.specs.Core.{rowsOf, Core}
-use Rattle.machine.specs.Represents.{WellFormed, RepresentsAt, Represents}
+use Rattle.machine.specs.Represents.{WellFormed, Flagged, RepresentsAt, Represents}
 use Rattle.machine.proofs.Back.{represents-sound-at, same-turn, same-stage, same-other, same-free, same-letters}
 use Rattle.moves.proofs.Memory.{with-long, with-word, with-settings, with-table}
 use Rattle.send_keeps.specs.Sends.{Stands}
-use Rattle.send_keeps.proofs.Formed.{withNodes}
-
--- the gap flags of a memory are those of the nodes
-abbrev pub Flags : Settings → List ℕ → (ℕ → Node) → Type 0
-Flags s memory N = (k q : ℕ) → k < 6 → q < 64 → getD (rowsOf s memory k (13 + q)) gapWord 0 ≡ gapFlag (firsts (N k .letters (13 + q)))
+use Rattle.moves.proofs.Formed.{withNodes}
 
 module _ (s : Settings) (memory : List ℕ) (m : Machine) (rep : RepresentsAt s memory m) (i : ℕ) (h : i < 6) (l : List ℕ) (long : length l ≡ nodeSize s) where
   abbrev new : List ℕ
@@ -32,7 +27,7 @@ module _ (s : Settings) (memory : List ℕ) (m : Machine) (rep : RepresentsAt s 
   word = with-word s memory (rep .size) i h l long
 
   pub represents-with : (N : ℕ → Node) → Core s (rowsOf s (withNode s memory i l)) N → ((k : ℕ) → k < 6 → N k .letters 0 ≡ m .node k .letters 0)
-      → Flags s (withNode s memory i l) N → WellFormed (tableIn memory) (withNodes m N) → RepresentsAt s (withNode s memory i l) (withNodes m N)
+      → Flagged (rowsOf s (withNode s memory i l)) N → WellFormed (tableIn memory) (withNodes m N) → RepresentsAt s (withNode s memory i l) (withNodes m N)
   represents-with N core hands flags formed =
       let t : tableIn new ≡ tableIn memory = with-table s memory (rep .size) i h l long in
       record {

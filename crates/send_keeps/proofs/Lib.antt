@@ -1,6 +1,5 @@
 pub mod Seats
 pub mod Letter
-pub mod Formed
 pub mod After
 pub mod Refused
 pub mod Done

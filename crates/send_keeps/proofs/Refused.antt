@@ -29,7 +29,7 @@ use Rattle.moves.proofs.Core.{word-put}
 use Rattle.moves.proofs.Queues.{length-counted, task-word}
 use Rattle.moves.proofs.Memory.{row-with}
 use Rattle.moves.proofs.Words.{room-words}
-use Rattle.send_keeps.proofs.Formed.{withNodes}
+use Rattle.moves.proofs.Formed.{withNodes}
 use Rattle.send_keeps.proofs.After.{represents-with}
 
 module _ (s : Settings) (memory : List ℕ) (m : Machine) (rep : RepresentsAt s memory m) (i : ℕ) (h : i < 6) where
@@ -46,7 +46,7 @@ module _ (s : Settings) (memory : List ℕ) (m : Machine) (rep : RepresentsAt s 
   send-ring k g = rw (kind-send s k g, seat-send i k g, line-send i k g) at (rep .core .queues i (1 + k) h (omega arith) (omega arith))
 
   task-ring : (q : ℕ) → q < 64 → TaskRing s (R i (13 + q)) 0 (firsts (m .node i .letters (13 + q)))
-  task-ring q g = gives-row s memory (rep .size) (m .node) (rep .core) i q h g (rep .shows .flags i q h g) (rep .formed .fronts i q h g)
+  task-ring q g = gives-row s memory (rep .size) (m .node) (rep .core) i q h g (rep .shows .flags i q h g) (rep .formed .order .fronts i q h g)
 
   -- one row anew, in which the flag, if it has one, is the same
   module _ (l : List ℕ) (long : length l ≡ nodeSize s) (r : ℕ) (w : List ℕ) (row : rowsOf s (withNode s memory i l) ≡ putRow (rowsOf s memory) i r w) (flag : 13 ≤ r → getD w 2 0 ≡ getD (rowsOf s memory i r) 2 0)

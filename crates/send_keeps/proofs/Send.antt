@@ -9,7 +9,7 @@ use Prim.Native.Nat.{ℕ, zero, suc, _+_, _-_, _*_, _≤_, _<_}
 use native.Mathlib.Nat.{zero-mul}
 use native.Mathlib.Omega.{arith}
 use lib.Dec.{eqb}
-use lib.ListN.{length}
+use lib.ListN.{length, getD, drop}
 use borrow.Author.Tests.{leb-true, ne-eqb}
 use Rattle.words.proofs.Lists.{put, put-same, put-other, split, same?}
 use Rattle.settings.specs.declared.Settings.{Settings}
@@ -20,8 +20,9 @@ use Rattle.tasks.proofs.Laws.{seat-within}
 use Rattle.blocks.specs.Chain.{needs, free}
 use Rattle.blocks.specs.Moves.{enough}
 use Rattle.letters.proofs.Rows.{needs-enough}
-use Rattle.queues.specs.Moves.{counted}
-use Rattle.queues.proofs.Items.{live-first}
+use Rattle.queues.specs.Queue.{sendKind}
+use Rattle.queues.specs.Moves.{appended, counted}
+use Rattle.gaps.specs.Close.{taskAppended}
 use Rattle.sound.specs.Reading.{settingsIn, tableIn}
 use Rattle.sound.specs.Queues.{taskOf}
 use Rattle.sound.specs.Sound.{sound}
@@ -34,21 +35,21 @@ use Rattle.posting.specs.declared.Sent.{Sent}
 use Rattle.posting.specs.declared.Sent.the-variants.{Done, SourceNotBound, DestinationNotBound, BodyTooLong}
 use Rattle.send.specs.Outcome.{Outcome, refusedBy, fits, goalOf, postedIn, delivered, send}
 use Rattle.send.proofs.Outcomes.{fits-both, goal-same, goal-other}
-use Rattle.machine.specs.Machine.{Letter, first, firsts, Node, Machine}
+use Rattle.machine.specs.Machine.{Letter, first, Node, Machine}
 use Rattle.machine.specs.Spelled.{nodeFrom, machineOf}
 use Rattle.machine.specs.Represents.{Right, RepresentsAt}
 use Rattle.machine.proofs.Sound.{sound-represents}
 use Rattle.machine.proofs.Gives.{gives-stretch}
-use Rattle.moves.specs.Moves.{liveOnes}
-use Rattle.moves.proofs.Items.{firsts-live, all-live}
+use Rattle.moves.specs.Moves.{placed, liveOnes}
 use Rattle.moves.proofs.Queues.{length-counted}
+use Rattle.moves.proofs.Formed.{withNodes, at-here, at-other}
+use Rattle.moves.proofs.Kept.{send-task-kept, send-gap-kept, send-queue-kept}
 use Rattle.send_keeps.specs.Sends.{placeOf, newLetter, Refuses, Sends, Change, Allowed}
 use Rattle.send_keeps.proofs.Seats.{bound-some, task-is}
 use Rattle.send_keeps.proofs.Letter.{letter-long, right-task, right-send}
-use Rattle.send_keeps.proofs.Formed.{withNodes, Grown, letters-else}
 use Rattle.send_keeps.proofs.After.{new-sound, new-stands, new-free, new-letters}
 use Rattle.send_keeps.proofs.Refused.{room-keeps, task-full-keeps, send-full-keeps}
-use Rattle.send_keeps.proofs.Done.{grownBy, Appends, at-free, put-keeps, is-grown, send-appends, task-appends}
+use Rattle.send_keeps.proofs.Done.{laidIn, begins, send-long, task-long, send-less, task-cases}
 
 -- ---- live letters
 live-more : (xs : List Letter) (L : Letter) → (first L ≡ 0 → ⊥) → liveOnes (xs ++ L ∷ []) ≡ liveOnes xs ++ L ∷ []
@@ -133,31 +134,35 @@ module _ (memory : List ℕ) (e : sound memory ≡ true) where
         (λ z. subst Q (post-full s l goal ws n refl (counted l (fullOf s goal)) (sym y) (sym z) refl) full))
         (λ y. subst Q (post-few s l goal ws n refl (counted l 1) (sym y) refl) (quiet i h (counted l 1) (count-long 1) (room-keeps s memory m rep i h)))
 
-    -- ---- done
-    module _ (has : needs s (length ws) ≤ length (m .node i .free)) (p : ℕ) (lo : 1 ≤ p) (hi : p < 77) (l₃ w : List ℕ) (kept : List Letter)
-        (a : Appends s memory m rep i h ws some has p l₃ w kept) (live : liveOnes kept ≡ liveOnes (m .node i .letters p)) where
+    -- ---- done: the machine has the new letter behind those kept at place p
+    module _ (has : needs s (length ws) ≤ length (m .node i .free)) (p : ℕ) (hi : p < 77) (stretch : List ℕ) (long : length stretch ≡ nodeSize s) (kept : List Letter) where
       abbrev L : Letter
       L = newLetter (m .node i .free) n ws
 
-      abbrev Y : Node
-      Y = grownBy s (m .node i) p kept ws
+      abbrev fr : List ℕ
+      fr = drop n (m .node i .free)
 
-      grown-sends : Grown (tableIn memory) m i p kept L Y → (sound (withNode s memory i l₃) ≡ true) × Sends m (machineOf (withNode s memory i l₃)) i p n ws
-      grown-sends g =
-          let N′ : ℕ → Node = put (m .node) i Y in
-          let r : RepresentsAt s (withNode s memory i l₃) (withNodes m (put (m .node) i Y)) = put-keeps s memory m rep i h ws some has p lo hi l₃ w kept a g in
-          let at : machineOf (withNode s memory i l₃) .node i .letters p ≡ kept ++ L ∷ [] =
-          new-letters s memory m rep i h l₃ (a .long) refl N′ r i p h (omega arith) ∙ ap (λ (Z : Node). Z .letters p) (put-same (m .node) i Y) ∙ g .at in (
-            new-sound s memory m rep i h l₃ (a .long) refl N′ r,
+      abbrev N′ : ℕ → Node
+      N′ = put (m .node) i (placed (m .node i) (drop n (m .node i .free)) p (kept ++ L ∷ []))
+
+      free-here : N′ i .free ≡ fr
+      unfolding placed
+      free-here = ap (λ (Z : Node). Z .free) (put-same (m .node) i (placed (m .node i) fr p (kept ++ L ∷ [])))
+
+      put-sends : liveOnes kept ≡ liveOnes (m .node i .letters p) → (p < 13 → kept ≡ m .node i .letters p) → RepresentsAt s (withNode s memory i stretch) (withNodes m N′)
+          → (sound (withNode s memory i stretch) ≡ true) × Sends m (machineOf (withNode s memory i stretch)) i p n ws
+      put-sends live whole r =
+          let at : machineOf (withNode s memory i stretch) .node i .letters p ≡ kept ++ L ∷ [] =
+          new-letters s memory m rep i h stretch long refl N′ r i p h (omega arith) ∙ at-here (m .node) i fr p (kept ++ L ∷ []) in (
+            new-sound s memory m rep i h stretch long refl N′ r,
             record {
-              stands = new-stands s memory m rep i h l₃ (a .long) refl N′ r;
-              behind = ap liveOnes at ∙ live-more kept L (g .block) ∙ ap (λ (x : List Letter). x ++ L ∷ []) live;
-              sent = λ z. at ∙ ap (λ (x : List Letter). x ++ L ∷ []) (g .whole z);
-              elsewhere = λ k q c d ne. new-letters s memory m rep i h l₃ (a .long) refl N′ r k q c d ∙ letters-else (tableIn memory) m (rep .formed) i p kept L Y g k q d ne;
+              stands = new-stands s memory m rep i h stretch long refl N′ r;
+              behind = ap liveOnes at ∙ live-more kept L (begins s memory m rep i h n ws some has) ∙ ap (λ (x : List Letter). x ++ L ∷ []) live;
+              sent = λ z. at ∙ ap (λ (x : List Letter). x ++ L ∷ []) (whole z);
+              elsewhere = λ k q c d ne. new-letters s memory m rep i h stretch long refl N′ r k q c d ∙ at-other (m .node) i fr p (kept ++ L ∷ []) k q ne;
               has = has;
-              takes = new-free s memory m rep i h l₃ (a .long) refl N′ r i h ∙ ap (λ (Z : Node). Z .free) (put-same (m .node) i Y)
-                  ∙ at-free s memory m rep i h ws some has p lo hi l₃ w kept a;
-              free = λ k c ne. new-free s memory m rep i h l₃ (a .long) refl N′ r k c ∙ ap (λ (Z : Node). Z .free) (put-other (m .node) i Y k ne);
+              takes = new-free s memory m rep i h stretch long refl N′ r i h ∙ free-here;
+              free = λ k c ne. new-free s memory m rep i h stretch long refl N′ r k c ∙ ap (λ (Z : Node). Z .free) (put-other (m .node) i (placed (m .node i) fr p (kept ++ L ∷ [])) k ne);
             },
           )
 
@@ -166,11 +171,8 @@ module _ (memory : List ℕ) (e : sound memory ≡ true) where
       sent : enough s l n ≡ true → hasRoom s l (ToNode k) ≡ true → (sound (withNode s memory i (putIn s l (ToNode k) ws)) ≡ true) × Sends m (machineOf (withNode s memory i (putIn s l (ToNode k) ws))) i (1 + k) n ws
       unfolding hasRoom appendedTo putIn
       sent y room =
-          let has = has-blocks y in
-          let a = send-appends s memory m rep i h ws some has k g room in
-          grown-sends has (1 + k) (omega arith) (omega arith) _ _ (m .node i .letters (1 + k)) a refl
-          (is-grown s memory m rep i h ws some has (1 + k) (omega arith) (omega arith) _ _ (m .node i .letters (1 + k)) a
-          right (λ P x. x) (λ z. absurd (omega arith)) (λ z. refl) (λ z. away (omega arith)) (λ z. omega arith) (λ q z t. omega arith))
+          put-sends (has-blocks y) (1 + k) (omega arith) (appended (sendKind s) (laidIn s l ws) (sendAt s k) (getD l 0 0)) (send-long s memory m rep i h ws k) (m .node i .letters (1 + k)) refl (λ z. refl)
+          (send-queue-kept s memory m rep i k h g (λ z. away (sym z)) ws right (has-blocks y) (send-less s memory m rep i h k g room))
 
       send-full : (sound (withNode s memory i (counted l (fullOf s (ToNode k)))) ≡ true) × Refuses m (machineOf (withNode s memory i (counted l (fullOf s (ToNode k)))))
       unfolding fullOf
@@ -184,19 +186,16 @@ module _ (memory : List ℕ) (e : sound memory ≡ true) where
       kept : enough s l n ≡ true → hasRoom s l (Task q) ≡ true → (sound (withNode s memory i (putIn s l (Task q) ws)) ≡ true) × Sends m (machineOf (withNode s memory i (putIn s l (Task q) ws))) i (13 + q) n ws
       unfolding hasRoom appendedTo putIn
       kept y room =
-          let has = has-blocks y in
           let ls : List Letter = m .node i .letters (13 + q) in
-          let none : (x : ℕ) → 13 + q ≡ 13 + x → taskOf (tableIn memory) i x ≡ 0 → ⊥ =
-          λ x z t. bound (let d : q ≡ x = omega arith in rw d t) in
-          task-appends s memory m rep i h ws some has q g room
-          (λ a.
-          grown-sends has (13 + q) (omega arith) (omega arith) _ _ ls a refl
-          (is-grown s memory m rep i h ws some has (13 + q) (omega arith) (omega arith) _ _ ls a
-          right (λ P x. x) (λ z. rep .formed .fronts i q h g) (λ z. absurd (omega arith)) (λ z. omega arith) (λ z. omega arith) none))
-          (λ a.
-          grown-sends has (13 + q) (omega arith) (omega arith) _ _ (liveOnes ls) a (live-twice ls)
-          (is-grown s memory m rep i h ws some has (13 + q) (omega arith) (omega arith) _ _ (liveOnes ls) a
-          right (λ P x. all-live P ls x) (λ z. rw (firsts-live ls) (live-first (firsts ls))) (λ z. absurd (omega arith)) (λ z. omega arith) (λ z. omega arith) none))
+          let l₃ : List ℕ = taskAppended s (laidIn s l ws) (taskAt s q) (getD l 0 0) in
+          let has = has-blocks y in
+          task-cases s memory m rep i h q g room
+          (λ less.
+          put-sends has (13 + q) (omega arith) l₃ (task-long s memory m rep i h ws q) ls refl (λ z. refl)
+          (send-task-kept s memory m rep i q h g ws right bound has less))
+          (λ full gaps.
+          put-sends has (13 + q) (omega arith) l₃ (task-long s memory m rep i h ws q) (liveOnes ls) (live-twice ls) (λ z. absurd (omega arith))
+          (send-gap-kept s memory m rep i q h g ws right bound has full gaps))
 
       task-full : (sound (withNode s memory i (counted l (fullOf s (Task q)))) ≡ true) × Refuses m (machineOf (withNode s memory i (counted l (fullOf s (Task q)))))
       unfolding fullOf

@@ -88,7 +88,7 @@ fn drop_zeroes(node: &mut [u32], k: Kind, q: usize)
 }
 
 // 1 if an item is 0, else 0.
-fn gap_flag(node: &[u32], k: Kind, q: usize) -> u32
+pub fn gap_flag(node: &[u32], k: Kind, q: usize) -> u32
     requires { ⌜ Queue k (now node) q ⌝ }
     ensures { λ r. ⌜ r ≡ gapFlag (contents k (now (node .entry)) q) ⌝ }
 {

@@ -71,3 +71,6 @@ module _ (t : List ℕ) (id : ℕ) where
       let k = every-at (λ id. holdsNone t id || hasSeat t id) taskIds (g .0) id (ltb-true id taskIds (h .0)) in
       let m = and-true (leb (nodeOf t id) 5) (leb (queueOf t id) 63) (rw n at k) in
       (leb-true (nodeOf t id) 5 (m .0), leb-true (queueOf t id) 63 (m .1))
+
+  pub seat-below : rightTable t ≡ true → isBound t id ≡ true → (nodeOf t id < 6) × (queueOf t id < 64)
+  seat-below r b = let w = seat-within r b in (omega arith, omega arith)

@@ -2,7 +2,8 @@
 use mathlib.Core.Path.{sym, _∙_}
 use native.Mathlib.Omega.{arith}
 use borrow.Author.Needs.{needs}
-use Rattle.listing.proofs.Given.{asked-long, asked-table, told-bound, told-unbound, told-seat}
+use Rattle.tasks.proofs.Laws.{told-at, told-unbound}
+use Rattle.listing.proofs.Given.{asked-long, asked-table, told-seat}
 use Rattle.listing.proofs.Few.{so-task}
 use Rattle.listing.proofs.Letters.{task-none, task-both}
 use Rattle.listing.proofs.list_task.Statement.{statement}
@@ -33,7 +34,7 @@ returns-2 : tie.Need-returns-2
 returns-2 c =
     let x = c .before .before .before .before .before .before .before .before .before .before .before .before .before .before .before .args in
     let y = c .before .before .before .before .before .before .before .before .before in
-    let b = told-bound _ (x .task) _ _ (sym (y .before .before .seat-of .ensures) ∙ y .i .given .1) in
+    let b = told-at _ (x .task) _ _ (sym (y .before .before .seat-of .ensures) ∙ y .i .given .1) in
     task-both (x .s) (x .memory .now) (x .task) (x .n) (x .out .now) _ _ _ _ _ _ (b .0) (b .1 .0) (b .1 .1) (c .before .before .before .before .before .before .list-task-queue .ensures) (c .before .before .list-nodes .ensures)
 
 pub list-task-spec : {M : Type 1} → statement M

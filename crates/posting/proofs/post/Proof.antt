@@ -31,6 +31,7 @@ post-spec =
     tie.close
     (tie.spec
     (λ c κs. search needs)
+    (λ c. search needs)
     has-blocks-requires
     count-up-requires
     (λ c. search needs)
@@ -40,6 +41,5 @@ post-spec =
     (λ c. search needs)
     returns-2
     put-in-requires
-    (λ c. search needs)
     (λ c. search needs)
     returns-3)

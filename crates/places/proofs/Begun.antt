@@ -1,0 +1,102 @@
+-- What stands at each kind of place, and what is known of the queue there. Assumes nothing.
+use mathlib.Core.Path.{_≡_, refl, sym, ap, _∙_}
+use mathlib.Core.Bool.{Bool, true, false, cond, _&&_, _||_, not, false≢true}
+use mathlib.Core.List.{List, [], _∷_}
+use Prim.Native.Nat.{ℕ, _+_, _-_, _≤_, _<_}
+use native.Mathlib.Omega.{arith}
+use lib.Dec.{eqb, leb}
+use lib.ListN.{length, getD}
+use borrow.Author.Tests.{eq-eqb, ne-eqb, leb-true}
+use Rattle.words.specs.Words.{part}
+use Rattle.words.proofs.Lists.{and-true}
+use Rattle.settings.specs.declared.Settings.{Settings}
+use Rattle.layout.specs.Places.{nodes, node, nodeAt, nodeSize, sendAt, ackAt, taskAt}
+use Rattle.layout.specs.Asked.{Stretch}
+use Rattle.layout.proofs.NodeRows.{by-head, by-send, by-ack, by-task}
+use Rattle.queues.specs.declared.Kind.{Kind}
+use Rattle.queues.specs.Queue.{sendKind, ackKind, taskKind, contents, Queue}
+use Rattle.queues.specs.Items.{live}
+use Rattle.queues.proofs.Items.{live-cons}
+use Rattle.letters.proofs.Copies.{node-stretch}
+use Rattle.sound.specs.Reading.{stageOf, otherOf, heldOf, sendItems, ackItems, taskItems}
+use Rattle.sound.specs.Positions.{namesOther, held}
+use Rattle.sound.specs.Blocks.{begun, chains}
+use Rattle.sound.proofs.Given.{send-queue, send-live, ack-queue, ack-live, task-queue}
+use Rattle.visits.specs.Marks.{marked}
+use Rattle.visits.specs.Letters.{lettersRight, Judged, Placing}
+use Rattle.visits.proofs.Judge.{right-none, marks-none}
+use Rattle.places.specs.Given.{standsRight, Lent}
+
+module _ (s : Settings) (memory l t row : List ℕ) (i : ℕ) (g : Lent s memory l t row i) where
+  pub lent-stretch : Stretch s l
+  lent-stretch = rw (g .stretch) (node-stretch s memory (g .looked .sized) i (g .small))
+
+  pub lent-placing : (p : ℕ) → p < 77 → Placing s l t row i p
+  lent-placing p h =
+      record { stretch = lent-stretch; table = rw (g .table) (g .looked .table); seats = g .seats; node = g .small; place = h }
+
+  -- ---- the hand
+  begun-hand : begun s memory i 0 ≡ held s memory i
+  unfolding begun
+  begun-hand = refl
+
+  pub hand-none : (marks : List ℕ) → (stageOf memory i ≡ 2 → ⊥) → Judged (lettersRight s l t i 0 marks (begun s memory i 0)) (marked marks (chains s l (begun s memory i 0))) true marks
+  unfolding held
+  hand-none marks h =
+      rw (begun-hand, ne-eqb (stageOf memory i) 2 h) (record { is = sym (right-none s l t i 0 marks); marks = λ e. sym (marks-none s l t i 0 marks) })
+
+  -- a block held is not 0
+  held-some : stageOf memory i ≡ 2 → heldOf memory i ≡ 0 → ⊥
+  unfolding standsRight
+  held-some e z =
+      let r = g .looked .positions i (g .small) in
+      let a : leb (stageOf memory i) 3 && (namesOther s memory i && cond (eqb (stageOf memory i) 2) (leb 1 (heldOf memory i) && leb (heldOf memory i) (s .m)) (eqb (heldOf memory i) 0)) ≡ true =
+      rw (ne-eqb (stageOf memory i) 0 (λ y. omega arith)) at r in
+      let b = and-true (namesOther s memory i) _ (and-true (leb (stageOf memory i) 3) _ a .1) in
+      let c : leb 1 (heldOf memory i) && leb (heldOf memory i) (s .m) ≡ true = rw (eq-eqb (stageOf memory i) 2 e) at (b .1) in
+      let d = leb-true 1 (heldOf memory i) (and-true (leb 1 (heldOf memory i)) _ c .0) in
+      omega arith
+
+  pub begun-held : stageOf memory i ≡ 2 → live (heldOf memory i ∷ []) ≡ begun s memory i 0
+  unfolding held live
+  begun-held e = live-cons (heldOf memory i) [] (held-some e) ∙ sym (begun-hand ∙ rw (eq-eqb (stageOf memory i) 2 e))
+
+  -- ---- the queues
+  module _ (k : Kind) (q p : ℕ) where
+    module _ (lo : 1 ≤ p) (hi : p < 7) (ek : k ≡ sendKind s) (eq : q ≡ sendAt s (p - 1)) where
+      pub send-is : Queue k l q
+      send-is = rw (ek, eq, g .stretch) (send-queue s memory (g .looked .sized) i (g .small) (g .looked .queues i (g .small)) (p - 1) (omega arith))
+
+      pub begun-send : live (contents k l q) ≡ begun s memory i p
+      unfolding begun
+      begun-send =
+          rw (ek, eq, g .stretch) (send-live s memory (g .looked .sized) i (g .small) (g .looked .queues i (g .small)) (p - 1) (omega arith))
+          ∙ sym (by-send p _ (sendItems s memory i (p - 1)) _ _ [] lo hi)
+
+    module _ (lo : 13 ≤ p) (hi : p < 77) (ek : k ≡ taskKind s) (eq : q ≡ taskAt s (p - 13)) where
+      pub task-is : Queue k l q
+      task-is = rw (ek, eq, g .stretch) (task-queue s memory (g .looked .sized) i (g .small) (g .looked .queues i (g .small)) (p - 13) (omega arith))
+
+      pub begun-task : live (contents k l q) ≡ begun s memory i p
+      unfolding begun
+      begun-task = rw (ek, eq, g .stretch) (sym (by-task p _ _ _ (live (taskItems s memory i (p - 13))) [] lo hi))
+
+    -- the queue stands on node p - 7
+    module _ (m : List ℕ) (lo : 7 ≤ p) (hi : p < 13) (em : m ≡ node s memory (p - 7)) (ek : k ≡ ackKind s) (eq : q ≡ ackAt s i) where
+      pub ack-is : Queue k m q
+      ack-is = rw (ek, eq, em) (ack-queue s memory (g .looked .sized) (p - 7) (omega arith) (g .looked .queues (p - 7) (omega arith)) i (g .small))
+
+      pub begun-ack : live (contents k m q) ≡ begun s memory i p
+      unfolding begun
+      begun-ack =
+          rw (ek, eq, em) (ack-live s memory (g .looked .sized) (p - 7) (omega arith) (g .looked .queues (p - 7) (omega arith)) i (g .small))
+          ∙ sym (by-ack p _ _ (ackItems s memory (p - 7) i) _ [] lo hi)
+
+-- what was judged of a list is judged of the same list under another name
+pub judged-same : (s : Settings) (l t : List ℕ) (i p : ℕ) (marks xs ys : List ℕ) (r : Bool) (new : List ℕ) → xs ≡ ys
+    → Judged (lettersRight s l t i p marks xs) (marked marks (chains s l xs)) r new → Judged (lettersRight s l t i p marks ys) (marked marks (chains s l ys)) r new
+judged-same s l t i p marks xs ys r new e v = rw e at v
+
+-- a stretch that was lent by its place
+pub node-lent : (s : Settings) (memory : List ℕ) (i a n : ℕ) → a ≡ nodeAt s i → n ≡ nodeSize s → part memory a (a + n) ≡ node s memory i
+node-lent s memory i a n e f = rw (e, f)

@@ -1,0 +1,3 @@
+pub mod Begun
+pub mod Counts
+pub mod Once

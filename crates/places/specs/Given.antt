@@ -1,0 +1,60 @@
+-- What is known of a memory once its size, its table, its queues and its positions are looked at, and what is asked of a node then.
+use mathlib.Core.Path.{_≡_}
+use mathlib.Core.Bool.{Bool, true, cond, _&&_}
+use mathlib.Core.List.{List}
+use Prim.Native.Nat.{ℕ, suc, _<_}
+use lib.Dec.{eqb, leb}
+use lib.ListN.{length, getD}
+use Rattle.words.specs.Words.{every}
+use Rattle.settings.specs.declared.Settings.{Settings}
+use Rattle.layout.specs.Places.{nodes, firstFreeAt, node}
+use Rattle.layout.specs.Asked.{Sized}
+use Rattle.tasks.specs.Table.{rightTable}
+use Rattle.sound.specs.Reading.{tableIn, stageOf, otherOf, heldOf}
+use Rattle.sound.specs.Queues.{rightQueues}
+use Rattle.sound.specs.Letters.{chainFrom, endsWell}
+use Rattle.sound.specs.Positions.{namesOther}
+use Rattle.sound.specs.Blocks.{standing, rightLetters}
+use Rattle.shapes.specs.Seats.{Seats}
+use Rattle.visits.specs.Marks.{fresh}
+
+-- the fourth rule but for the comparison of the two letters
+unfoldable pub standsRight : Settings → List ℕ → ℕ → Bool
+standsRight s memory j =
+    cond (eqb (stageOf memory j) 0) (eqb (otherOf memory j) 0 && eqb (heldOf memory j) 0)
+    (leb (stageOf memory j) 3
+    && (namesOther s memory j
+    && cond (eqb (stageOf memory j) 2) (leb 1 (heldOf memory j) && leb (heldOf memory j) (s .m)) (eqb (heldOf memory j) 0)))
+
+-- the first three rules hold, and the fourth but for the letters
+pub record Looked (s : Settings) (memory : List ℕ) : Type 0 where
+  pub sized : Sized s memory
+  pub table : rightTable (tableIn memory) ≡ true
+  pub queues : (i : ℕ) → i < nodes → rightQueues s memory i ≡ true
+  pub positions : (i : ℕ) → i < nodes → standsRight s memory i ≡ true
+
+-- the parts that are lent of it: node i's stretch and the task table, with the row of seats
+pub record Lent (s : Settings) (memory words ids row : List ℕ) (i : ℕ) : Type 0 where
+  pub looked : Looked s memory
+  pub small : i < nodes
+  pub stretch : words ≡ node s memory i
+  pub table : ids ≡ tableIn memory
+  pub seats : Seats ids row
+
+-- the free list ends well, and none of its blocks has a mark
+unfoldable pub freeRight : Settings → List ℕ → List ℕ → Bool
+freeRight s stretch marks =
+    endsWell s stretch (getD stretch firstFreeAt 0) && fresh marks (chainFrom s stretch (getD stretch firstFreeAt 0))
+
+-- the letters at every place are right, and none of their blocks has a mark
+unfoldable pub placesRight : Settings → List ℕ → ℕ → List ℕ → Bool
+placesRight s memory i marks = rightLetters s memory i && fresh marks (standing s memory i 77)
+
+-- 1,025 words for the marks, none made yet
+pub record Blank (marks : List ℕ) : Type 0 where
+  pub long : length marks ≡ 1025
+  pub none : (b : ℕ) → getD marks b 0 ≡ 0
+
+-- the blocks 1 to m have a mark
+unfoldable pub allMarked : ℕ → List ℕ → Bool
+allMarked m marks = every m (λ b. eqb (getD marks (suc b) 0) 1)

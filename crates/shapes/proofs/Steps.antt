@@ -1,0 +1,156 @@
+-- What each test of a queue decides, and what a turn of each loop passes. Assumes nothing.
+use mathlib.Core.Path.{_≡_, refl, sym, ap, _∙_}
+use mathlib.Core.Bool.{Bool, true, false, cond, _&&_, _||_, not, false≢true}
+use mathlib.Core.List.{List, [], _∷_}
+use Prim.Native.Nat.{ℕ, zero, suc, _+_, _-_, _≤_, _<_}
+use native.Mathlib.Omega.{arith}
+use lib.Dec.{eqb, leb, ltb, leb·zero}
+use lib.ListN.{length, getD}
+use borrow.Author.Tests.{eq-eqb, ne-eqb, eqb-true, leb-true, ltb-true, le-leb, lt-leb, lt-ltb, le-ltb}
+use Rattle.words.specs.Words.{every, all}
+use Rattle.words.proofs.Lists.{split, same?, and-true, and-join, and-false, every-at, every-all, every-not}
+use Rattle.layout.specs.Places.{gapWord}
+use Rattle.queues.specs.declared.Kind.{Kind}
+use Rattle.queues.specs.Queue.{start, items, itemAt, run, contents}
+use Rattle.queues.specs.Items.{gapFlag}
+use Rattle.queues.proofs.Ring.{length-run}
+use Rattle.sound.specs.Queues.{inShape}
+use Rattle.sound.proofs.Tests.{no-second, every-more, all-none, all-step, all-same}
+use Rattle.shapes.specs.Shape.{itemsWithin, rightPost, rightSeat}
+
+module _ (k : Kind) (l : List ℕ) (q : ℕ) where
+  -- slot i is an item's, or holds 0
+  abbrev pub clear : ℕ → Bool
+  clear i = ltb i (items k l q) || eqb (itemAt k l q i) 0
+
+  pub shape-start : k .slots ≤ start k l q → false ≡ inShape k l q
+  unfolding inShape
+  shape-start h = rw (le-ltb (start k l q) (k .slots) h)
+
+  pub shape-items : k .slots < items k l q → false ≡ inShape k l q
+  unfolding inShape
+  shape-items h = no-second (ltb (start k l q) (k .slots)) _ (rw (lt-leb (items k l q) (k .slots) h))
+
+  -- the slots before the first that is to be 0
+  pub clear-items : every (items k l q) clear ≡ true
+  clear-items = every-all clear (items k l q) (λ i h. rw (lt-ltb i (items k l q) h))
+
+  pub clear-more : (i : ℕ) → every i clear ≡ true → itemAt k l q i ≡ 0 → every (i + 1) clear ≡ true
+  clear-more i e z = every-more clear i e (rw z (or-true (ltb i (items k l q))))
+    where
+      or-true : (b : Bool) → b || true ≡ true
+      or-true true = refl
+      or-true false = refl
+
+  pub shape-slot : (i : ℕ) → items k l q ≤ i → i < k .slots → (itemAt k l q i ≡ 0 → ⊥) → false ≡ inShape k l q
+  unfolding inShape
+  shape-slot i h g n =
+      no-second (ltb (start k l q) (k .slots)) _
+      (sym (no-second (leb (items k l q) (k .slots)) _
+      (every-not clear (k .slots) i g (rw (le-ltb i (items k l q) h, ne-eqb (itemAt k l q i) 0 n)))))
+
+  pub shape-yes : start k l q < k .slots → items k l q ≤ k .slots → every (k .slots) clear ≡ true → true ≡ inShape k l q
+  unfolding inShape
+  shape-yes h g e = rw (lt-ltb (start k l q) (k .slots) h, le-leb (items k l q) (k .slots) g, e)
+
+  -- ---- the items from place i on, of n
+  pub run-step : (i n : ℕ) → i < n → run k l q i (n - i) ≡ itemAt k l q i ∷ run k l q (i + 1) (n - (i + 1))
+  unfolding run
+  run-step i n h = let e : n - i ≡ suc (n - (i + 1)) = omega arith in rw e
+
+  pub run-none : (i n : ℕ) → n ≤ i → run k l q i (n - i) ≡ []
+  unfolding run
+  run-none i n h = let e : n - i ≡ 0 = omega arith in rw e
+
+  module _ (least most : ℕ) (i n : ℕ) (r : Bool) (e : r ≡ itemsWithin least most (run k l q i (n - i))) where
+    pub within-low : i < n → itemAt k l q i < least → false ≡ r
+    unfolding itemsWithin
+    within-low h g = sym (e ∙ ap (all _) (run-step i n h) ∙ all-step _ _ _ ∙ rw (lt-leb least (itemAt k l q i) g))
+
+    pub within-high : i < n → most < itemAt k l q i → false ≡ r
+    unfolding itemsWithin
+    within-high h g =
+        sym (e ∙ ap (all _) (run-step i n h) ∙ all-step _ _ _
+        ∙ rw (lt-leb (itemAt k l q i) most g, and-false (leb least (itemAt k l q i))))
+
+    pub within-more : i < n → least ≤ itemAt k l q i → itemAt k l q i ≤ most → r ≡ itemsWithin least most (run k l q (i + 1) (n - (i + 1)))
+    unfolding itemsWithin
+    within-more h g f =
+        e ∙ ap (all _) (run-step i n h) ∙ all-step _ _ _ ∙ rw (le-leb least (itemAt k l q i) g, le-leb (itemAt k l q i) most f)
+
+    pub within-none : n ≤ i → true ≡ r
+    unfolding itemsWithin
+    within-none h = sym (e ∙ ap (all _) (run-none i n h) ∙ all-none _)
+
+  -- ---- a send or acknowledge queue
+  module _ (m : ℕ) (own : Bool) where
+    pub post-shape : inShape k l q ≡ false → false ≡ rightPost k l q m own
+    unfolding rightPost
+    post-shape e = rw e
+
+    pub post-own : inShape k l q ≡ true → own ≡ true → eqb (items k l q) 0 ≡ rightPost k l q m own
+    unfolding rightPost itemsWithin run all
+    post-own e o =
+        rw (e, o, length-run k l q 0 (items k l q))
+        (same? (items k l q) 0
+        (λ z t. rw t (rw z))
+        (λ z t. rw t))
+
+    pub post-other : inShape k l q ≡ true → own ≡ false → (r : Bool) → r ≡ itemsWithin 1 m (contents k l q) → r ≡ rightPost k l q m own
+    unfolding rightPost
+    post-other e o r f = rw (e, o) f
+
+-- ---- a task queue
+module _ (k : Kind) (l : List ℕ) (q m task : ℕ) where
+  long : length (contents k l q) ≡ items k l q
+  long = length-run k l q 0 (items k l q)
+
+  pub seat-shape : inShape k l q ≡ false → false ≡ rightSeat k l q m task
+  unfolding rightSeat
+  seat-shape e = rw e
+
+  module _ (e : inShape k l q ≡ true) where
+    pub seat-empty : items k l q ≡ 0 → eqb (getD l (q + gapWord) 0) 0 ≡ rightSeat k l q m task
+    unfolding rightSeat run gapFlag
+    seat-empty z =
+        let n : (contents k l q) ≡ [] = ap (run k l q 0) z ∙ none in
+        rw (e, n, all-none (λ b. leb b m)) (rest (not (eqb task 0)) (getD l (q + gapWord) 0))
+      where
+        none : run k l q 0 0 ≡ []
+        none = refl
+
+        rest : (b : Bool) (g : ℕ) → eqb g 0 ≡ (b || true) && eqb g (gapFlag [])
+        rest true g = refl
+        rest false g = refl
+
+    module _ (n : items k l q ≡ 0 → ⊥) where
+      some : eqb (length (contents k l q)) 0 ≡ false
+      some = ne-eqb _ 0 (λ z. n (sym long ∙ z))
+
+      pub seat-unbound : task ≡ 0 → false ≡ rightSeat k l q m task
+      unfolding rightSeat
+      seat-unbound z = rw (e, some, eq-eqb task 0 z)
+
+      first : getD (contents k l q) 0 0 ≡ itemAt k l q 0
+      unfolding run
+      first = let d : items k l q ≡ suc (items k l q - 1) = omega arith in ap (λ (n : ℕ). getD (run k l q 0 n) 0 0) d
+
+      pub seat-gap : itemAt k l q 0 ≡ 0 → false ≡ rightSeat k l q m task
+      unfolding rightSeat
+      seat-gap z =
+          let y : getD (contents k l q) 0 0 ≡ 0 = first ∙ z in
+          rw (e, some, y) (no-second (not (eqb task 0) || false) _ (sym (no-second (all (λ b. leb b m) (contents k l q)) false refl)))
+
+      same-within : itemsWithin 0 m (contents k l q) ≡ all (λ b. leb b m) (contents k l q)
+      unfolding itemsWithin
+      same-within = all-same (λ b. leb 0 b && leb b m) (λ b. leb b m) (contents k l q) (λ b. rw (leb·zero b))
+
+      pub seat-high : itemsWithin 0 m (contents k l q) ≡ false → false ≡ rightSeat k l q m task
+      unfolding rightSeat
+      seat-high f = rw (e, sym same-within ∙ f) (no-second (not (eqb task 0) || eqb (length (contents k l q)) 0) false refl)
+
+      pub seat-flag : (task ≡ 0 → ⊥) → (itemAt k l q 0 ≡ 0 → ⊥) → itemsWithin 0 m (contents k l q) ≡ true
+          → (r : Bool) → r ≡ eqb (getD l (q + gapWord) 0) (gapFlag (contents k l q)) → r ≡ rightSeat k l q m task
+      unfolding rightSeat
+      seat-flag t i f r z =
+          rw (e, ne-eqb task 0 t, sym same-within ∙ f, some, ne-eqb (getD (contents k l q) 0 0) 0 (λ y. i (sym first ∙ y))) z

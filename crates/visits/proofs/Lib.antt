@@ -1,0 +1,4 @@
+pub mod Walks
+pub mod Read
+pub mod Judge
+pub mod Turns
