@@ -16,7 +16,7 @@ use Rattle.machine.specs.Core.{rowsOf, Core}
 use Rattle.machine.specs.Represents.{WellFormed, Flagged, RepresentsAt, Represents}
 use Rattle.machine.proofs.Back.{represents-sound-at, same-turn, same-stage, same-other, same-free, same-letters}
 use Rattle.moves.proofs.Memory.{with-long, with-word, with-settings, with-table}
-use Rattle.send_keeps.specs.Sends.{Stands}
+use Rattle.send_keeps.specs.Sends.{Fixed, Stands}
 use Rattle.moves.proofs.Formed.{withNodes}
 
 module _ (s : Settings) (memory : List ℕ) (m : Machine) (rep : RepresentsAt s memory m) (i : ℕ) (h : i < 6) (l : List ℕ) (long : length l ≡ nodeSize s) where
@@ -54,6 +54,14 @@ module _ (s : Settings) (memory : List ℕ) (m : Machine) (rep : RepresentsAt s 
 
     pub new-sound : sound (withNode s memory i l) ≡ true
     new-sound = represents-sound-at s new (withNodes m N) settings-new e
+
+    pub new-fixed : Fixed memory (withNode s memory i l)
+    new-fixed =
+        record {
+          size = with-long s memory (rep .size) i h l long;
+          settings = with-settings s memory (rep .size) i h l long;
+          table = with-table s memory (rep .size) i h l long;
+        }
 
     pub new-stands : Stands m (machineOf (withNode s memory i l))
     new-stands =

@@ -1,7 +1,7 @@
 -- A SOUND MEMORY STAYS SOUND THROUGH A SEND, done or refused, and what the send does to the machine. Assumes nothing.
---     send-sound     the memory after it is sound
---     send-changes     what each answer says of the machine before and after; send-done     the same of a send that is done
---     send-allowed     it is done between bound tasks alone, with the blocks that the letter needs
+--     send-sound     the memory after it is sound; send-fixed     its size, settings and task table stay
+--     send-changes     what each answer says of the machine before and after
+--     send-refused, send-done, send-allowed     the same of a send that is refused, and of one that is done
 use mathlib.Core.Path.{_≡_, refl, sym, ap, _∙_, subst}
 use mathlib.Core.Bool.{true, false}
 use mathlib.Core.List.{List, [], _∷_, _++_}
@@ -32,7 +32,7 @@ use Rattle.posting.proofs.Frames.{post-few, post-full, post-done}
 use Rattle.posting.specs.declared.Goal.{Goal}
 use Rattle.posting.specs.declared.Goal.the-variants.{Task, Node as ToNode}
 use Rattle.posting.specs.declared.Sent.{Sent}
-use Rattle.posting.specs.declared.Sent.the-variants.{Done, SourceNotBound, DestinationNotBound, BodyTooLong}
+use Rattle.posting.specs.declared.Sent.the-variants.{Done, NotSound, SourceNotBound, DestinationNotBound, BodyTooLong, TooFewBlocks, QueueFull}
 use Rattle.send.specs.Outcome.{Outcome, refusedBy, fits, goalOf, postedIn, delivered, send}
 use Rattle.send.proofs.Outcomes.{fits-both, goal-same, goal-other}
 use Rattle.machine.specs.Machine.{Letter, first, Node, Machine}
@@ -44,10 +44,10 @@ use Rattle.moves.specs.Moves.{placed, liveOnes}
 use Rattle.moves.proofs.Queues.{length-counted}
 use Rattle.moves.proofs.Formed.{withNodes, at-here, at-other}
 use Rattle.moves.proofs.Kept.{send-task-kept, send-gap-kept, send-queue-kept}
-use Rattle.send_keeps.specs.Sends.{placeOf, newLetter, Refuses, Sends, Change, Allowed}
+use Rattle.send_keeps.specs.Sends.{placeOf, newLetter, Fixed, Refuses, Sends, Change, Allowed}
 use Rattle.send_keeps.proofs.Seats.{bound-some, task-is}
 use Rattle.send_keeps.proofs.Letter.{letter-long, right-task, right-send}
-use Rattle.send_keeps.proofs.After.{new-sound, new-stands, new-free, new-letters}
+use Rattle.send_keeps.proofs.After.{new-sound, new-fixed, new-stands, new-free, new-letters}
 use Rattle.send_keeps.proofs.Refused.{room-keeps, task-full-keeps, send-full-keeps}
 use Rattle.send_keeps.proofs.Done.{laidIn, begins, send-long, task-long, send-less, task-cases}
 
@@ -69,6 +69,17 @@ needs-one s r n h = let e = needs-enough s r n in some (needs s n) (s .b - 1) (o
     some zero j h = absurd (omega (arith, zero-mul j))
     some (suc k) j h = omega arith
 
+same-machine : (m : Machine) → Refuses m m
+same-machine m =
+    record {
+      stands = record { turn = refl; stage = λ j h. refl; other = λ j h. refl };
+      free = λ k h. refl;
+      letters = λ k p h g. refl;
+    }
+
+same-words : (memory : List ℕ) → Fixed memory memory
+same-words memory = record { size = refl; settings = refl; table = refl }
+
 module _ (memory : List ℕ) (e : sound memory ≡ true) where
   abbrev s : Settings
   s = settingsIn memory
@@ -79,19 +90,18 @@ module _ (memory : List ℕ) (e : sound memory ≡ true) where
   rep : RepresentsAt (settingsIn memory) memory (machineOf memory)
   rep = sound-represents memory e
 
+  -- what is said of the memory after it
+  abbrev Safe : List ℕ → Type 0
+  Safe after = (sound after ≡ true) × Fixed memory after
+
   -- ---- refused
-  same-machine : Refuses m m
-  same-machine =
-      record {
-        stands = record { turn = refl; stage = λ j h. refl; other = λ j h. refl };
-        free = λ k h. refl;
-        letters = λ k p h g. refl;
-      }
+  unchanged : Safe memory × Refuses m m
+  unchanged = ((e, same-words memory), same-machine m)
 
   quiet : (i : ℕ) → i < 6 → (l : List ℕ) → length l ≡ nodeSize s → RepresentsAt s (withNode s memory i l) (withNodes m (m .node))
-      → (sound (withNode s memory i l) ≡ true) × Refuses m (machineOf (withNode s memory i l))
+      → Safe (withNode s memory i l) × Refuses m (machineOf (withNode s memory i l))
   quiet i h l long r = (
-    new-sound s memory m rep i h l long refl (m .node) r,
+    (new-sound s memory m rep i h l long refl (m .node) r, new-fixed s memory m rep i h l long refl (m .node) r),
     record {
       stands = new-stands s memory m rep i h l long refl (m .node) r;
       free = new-free s memory m rep i h l long refl (m .node) r;
@@ -108,7 +118,7 @@ module _ (memory : List ℕ) (e : sound memory ≡ true) where
 
     -- what is said of an outcome
     abbrev Good : Goal → Outcome → Type 0
-    Good goal o = (sound (o .memory) ≡ true) × Change m (machineOf (o .memory)) i (placeOf goal) ws (o .answer)
+    Good goal o = Safe (o .memory) × Change m (machineOf (o .memory)) i (placeOf goal) ws (o .answer)
 
     some : 1 ≤ n
     some = needs-one s (rep .core .range) (length ws) five
@@ -122,8 +132,8 @@ module _ (memory : List ℕ) (e : sound memory ≡ true) where
 
     -- ---- by the tests on the way
     by-tests : (goal : Goal)
-        → (enough s l n ≡ true → hasRoom s l goal ≡ true → (sound (withNode s memory i (putIn s l goal ws)) ≡ true) × Sends m (machineOf (withNode s memory i (putIn s l goal ws))) i (placeOf goal) n ws)
-        → (sound (withNode s memory i (counted l (fullOf s goal))) ≡ true) × Refuses m (machineOf (withNode s memory i (counted l (fullOf s goal))))
+        → (enough s l n ≡ true → hasRoom s l goal ≡ true → Safe (withNode s memory i (putIn s l goal ws)) × Sends m (machineOf (withNode s memory i (putIn s l goal ws))) i (placeOf goal) n ws)
+        → Safe (withNode s memory i (counted l (fullOf s goal))) × Refuses m (machineOf (withNode s memory i (counted l (fullOf s goal))))
         → Good goal (postedIn s memory i goal ws)
     unfolding postedIn
     by-tests goal put full =
@@ -150,11 +160,11 @@ module _ (memory : List ℕ) (e : sound memory ≡ true) where
       free-here = ap (λ (Z : Node). Z .free) (put-same (m .node) i (placed (m .node i) fr p (kept ++ L ∷ [])))
 
       put-sends : liveOnes kept ≡ liveOnes (m .node i .letters p) → (p < 13 → kept ≡ m .node i .letters p) → RepresentsAt s (withNode s memory i stretch) (withNodes m N′)
-          → (sound (withNode s memory i stretch) ≡ true) × Sends m (machineOf (withNode s memory i stretch)) i p n ws
+          → Safe (withNode s memory i stretch) × Sends m (machineOf (withNode s memory i stretch)) i p n ws
       put-sends live whole r =
           let at : machineOf (withNode s memory i stretch) .node i .letters p ≡ kept ++ L ∷ [] =
           new-letters s memory m rep i h stretch long refl N′ r i p h (omega arith) ∙ at-here (m .node) i fr p (kept ++ L ∷ []) in (
-            new-sound s memory m rep i h stretch long refl N′ r,
+            (new-sound s memory m rep i h stretch long refl N′ r, new-fixed s memory m rep i h stretch long refl N′ r),
             record {
               stands = new-stands s memory m rep i h stretch long refl N′ r;
               behind = ap liveOnes at ∙ live-more kept L (begins s memory m rep i h n ws some has) ∙ ap (λ (x : List Letter). x ++ L ∷ []) live;
@@ -168,13 +178,13 @@ module _ (memory : List ℕ) (e : sound memory ≡ true) where
 
     -- ---- to a send queue
     module _ (k : ℕ) (g : k < 6) (away : i ≡ k → ⊥) (right : Right (tableIn memory) i (1 + k) ws) where
-      sent : enough s l n ≡ true → hasRoom s l (ToNode k) ≡ true → (sound (withNode s memory i (putIn s l (ToNode k) ws)) ≡ true) × Sends m (machineOf (withNode s memory i (putIn s l (ToNode k) ws))) i (1 + k) n ws
+      sent : enough s l n ≡ true → hasRoom s l (ToNode k) ≡ true → Safe (withNode s memory i (putIn s l (ToNode k) ws)) × Sends m (machineOf (withNode s memory i (putIn s l (ToNode k) ws))) i (1 + k) n ws
       unfolding hasRoom appendedTo putIn
       sent y room =
           put-sends (has-blocks y) (1 + k) (omega arith) (appended (sendKind s) (laidIn s l ws) (sendAt s k) (getD l 0 0)) (send-long s memory m rep i h ws k) (m .node i .letters (1 + k)) refl (λ z. refl)
           (send-queue-kept s memory m rep i k h g (λ z. away (sym z)) ws right (has-blocks y) (send-less s memory m rep i h k g room))
 
-      send-full : (sound (withNode s memory i (counted l (fullOf s (ToNode k)))) ≡ true) × Refuses m (machineOf (withNode s memory i (counted l (fullOf s (ToNode k)))))
+      send-full : Safe (withNode s memory i (counted l (fullOf s (ToNode k)))) × Refuses m (machineOf (withNode s memory i (counted l (fullOf s (ToNode k)))))
       unfolding fullOf
       send-full = quiet i h (counted l (sendAt s k + 2)) (count-long (sendAt s k + 2)) (send-full-keeps s memory m rep i h k g)
 
@@ -183,7 +193,7 @@ module _ (memory : List ℕ) (e : sound memory ≡ true) where
 
     -- ---- to a task queue
     module _ (q : ℕ) (g : q < 64) (bound : taskOf (tableIn memory) i q ≡ 0 → ⊥) (right : Right (tableIn memory) i (13 + q) ws) where
-      kept : enough s l n ≡ true → hasRoom s l (Task q) ≡ true → (sound (withNode s memory i (putIn s l (Task q) ws)) ≡ true) × Sends m (machineOf (withNode s memory i (putIn s l (Task q) ws))) i (13 + q) n ws
+      kept : enough s l n ≡ true → hasRoom s l (Task q) ≡ true → Safe (withNode s memory i (putIn s l (Task q) ws)) × Sends m (machineOf (withNode s memory i (putIn s l (Task q) ws))) i (13 + q) n ws
       unfolding hasRoom appendedTo putIn
       kept y room =
           let ls : List Letter = m .node i .letters (13 + q) in
@@ -197,7 +207,7 @@ module _ (memory : List ℕ) (e : sound memory ≡ true) where
           put-sends has (13 + q) (omega arith) l₃ (task-long s memory m rep i h ws q) (liveOnes ls) (live-twice ls) (λ z. absurd (omega arith))
           (send-gap-kept s memory m rep i q h g ws right bound has full gaps))
 
-      task-full : (sound (withNode s memory i (counted l (fullOf s (Task q)))) ≡ true) × Refuses m (machineOf (withNode s memory i (counted l (fullOf s (Task q)))))
+      task-full : Safe (withNode s memory i (counted l (fullOf s (Task q)))) × Refuses m (machineOf (withNode s memory i (counted l (fullOf s (Task q)))))
       unfolding fullOf
       task-full = quiet i h (counted l (taskAt s q + 3)) (count-long (taskAt s q + 3)) (task-full-keeps s memory m rep i h q g)
 
@@ -226,7 +236,7 @@ module _ (memory : List ℕ) (e : sound memory ≡ true) where
 
     -- what is said of the outcome
     abbrev Holds : Outcome → Type 0
-    Holds o = (sound (o .memory) ≡ true) × Change m (machineOf (o .memory)) from (placeOf goal) words (o .answer)
+    Holds o = Safe (o .memory) × Change m (machineOf (o .memory)) from (placeOf goal) words (o .answer)
 
     deliver : isBound table source ≡ true → isBound table destination ≡ true → true ≡ fits s (length body) → Holds (postedIn s memory from goal words)
     deliver bs bd ft =
@@ -268,22 +278,9 @@ module _ (memory : List ℕ) (e : sound memory ≡ true) where
         (λ bs. split (isBound table destination)
         (λ bd. split (fits s (length body))
         (λ ft. subst Holds (sym (is-delivered bs bd ft)) (deliver bs bd (sym ft)))
-        (λ ft. subst Holds (sym (is-long bs bd ft)) (e, same-machine)))
-        (λ bd. subst Holds (sym (is-other bs bd)) (e, same-machine)))
-        (λ bs. subst Holds (sym (is-first bs)) (e, same-machine))
-
-    -- WHAT A SEND DOES TO THE MACHINE
-    pub send-changes : Change (machineOf memory) (machineOf (send memory source destination body .memory)) (nodeOf (tableIn memory) source)
-        (placeOf (goalOf (nodeOf (tableIn memory) source) (nodeOf (tableIn memory) destination) (queueOf (tableIn memory) destination)))
-        (letterOf (headerOf (tableIn memory) source destination) body) (send memory source destination body .answer)
-    send-changes = holds .1
-
-    -- done, in so many words
-    pub send-done : (n : ℕ) → send memory source destination body .answer ≡ Done n
-        → Sends (machineOf memory) (machineOf (send memory source destination body .memory)) (nodeOf (tableIn memory) source)
-        (placeOf (goalOf (nodeOf (tableIn memory) source) (nodeOf (tableIn memory) destination) (queueOf (tableIn memory) destination)))
-        n (letterOf (headerOf (tableIn memory) source destination) body)
-    send-done n d = subst (λ (a : Sent). Change m (machineOf (send memory source destination body .memory)) from (placeOf goal) words a) d send-changes
+        (λ ft. subst Holds (sym (is-long bs bd ft)) unchanged))
+        (λ bd. subst Holds (sym (is-other bs bd)) unchanged))
+        (λ bs. subst Holds (sym (is-first bs)) unchanged)
 
     -- ---- what a done send says of its tasks and blocks
     abbrev Says : Outcome → Type 0
@@ -301,9 +298,8 @@ module _ (memory : List ℕ) (e : sound memory ≡ true) where
         (λ z. subst Q (post-full s l goal words k refl (counted l (fullOf s goal)) (sym y) (sym z) refl) (λ n d. absurd (let z : _≡_ {A = ℕ} 0 1 = cc in omega arith))))
         (λ y. subst Q (post-few s l goal words k refl (counted l 1) (sym y) refl) (λ n d. absurd (let z : _≡_ {A = ℕ} 0 1 = cc in omega arith)))
 
-    pub send-allowed : (n : ℕ) → send memory source destination body .answer ≡ Done n
-        → Allowed (settingsIn memory) (tableIn memory) source destination n (letterOf (headerOf (tableIn memory) source destination) body)
-    send-allowed =
+    says : Says (send memory source destination body)
+    says =
         split (isBound table source)
         (λ bs. split (isBound table destination)
         (λ bd. split (fits s (length body))
@@ -312,6 +308,63 @@ module _ (memory : List ℕ) (e : sound memory ≡ true) where
         (λ bd. subst Says (sym (is-other bs bd)) (λ n d. absurd (let z : _≡_ {A = ℕ} 0 1 = cc in omega arith))))
         (λ bs. subst Says (sym (is-first bs)) (λ n d. absurd (let z : _≡_ {A = ℕ} 0 1 = cc in omega arith)))
 
--- A SOUND MEMORY STAYS SOUND
-pub send-sound : (memory : List ℕ) (source destination : ℕ) (body : List ℕ) → sound memory ≡ true → sound (send memory source destination body .memory) ≡ true
-send-sound memory source destination body e = holds memory e source destination body .0
+refuses : (m m′ : Machine) (i p : ℕ) (ws : List ℕ) (a : Sent) → Change m m′ i p ws a → ((n : ℕ) → a ≡ Done n → ⊥) → Refuses m m′
+refuses m m′ i p ws (Done n) c f = absurd (f n refl)
+refuses m m′ i p ws NotSound c f = c
+refuses m m′ i p ws SourceNotBound c f = c
+refuses m m′ i p ws DestinationNotBound c f = c
+refuses m m′ i p ws BodyTooLong c f = c
+refuses m m′ i p ws TooFewBlocks c f = c
+refuses m m′ i p ws QueueFull c f = c
+
+-- ---- for every memory
+module _ (memory : List ℕ) (source destination : ℕ) (body : List ℕ) where
+  abbrev goal-at : ℕ
+  goal-at = placeOf (goalOf (nodeOf (tableIn memory) source) (nodeOf (tableIn memory) destination) (queueOf (tableIn memory) destination))
+
+  is-unsound : sound memory ≡ false → send memory source destination body ≡ refusedBy NotSound memory
+  unfolding send
+  is-unsound e = rw e
+
+  -- A SOUND MEMORY STAYS SOUND
+  pub send-sound : sound memory ≡ true → sound (send memory source destination body .memory) ≡ true
+  send-sound e = holds memory e source destination body .0 .0
+
+  -- the size, the settings and the task table stay
+  pub send-fixed : Fixed memory (send memory source destination body .memory)
+  send-fixed =
+      split (sound memory)
+      (λ e. holds memory e source destination body .0 .1)
+      (λ e. subst (λ (o : Outcome). Fixed memory (o .memory)) (sym (is-unsound e)) (same-words memory))
+
+  -- WHAT A SEND DOES TO THE MACHINE, by its answer
+  pub send-changes : Change (machineOf memory) (machineOf (send memory source destination body .memory)) (nodeOf (tableIn memory) source)
+      (placeOf (goalOf (nodeOf (tableIn memory) source) (nodeOf (tableIn memory) destination) (queueOf (tableIn memory) destination)))
+      (letterOf (headerOf (tableIn memory) source destination) body) (send memory source destination body .answer)
+  send-changes =
+      split (sound memory)
+      (λ e. holds memory e source destination body .1)
+      (λ e. subst (λ (o : Outcome). Change (machineOf memory) (machineOf (o .memory)) (nodeOf (tableIn memory) source) goal-at (letterOf (headerOf (tableIn memory) source destination) body) (o .answer))
+      (sym (is-unsound e)) (same-machine (machineOf memory)))
+
+  -- REFUSED: the machine stays
+  pub send-refused : ((n : ℕ) → send memory source destination body .answer ≡ Done n → ⊥) → Refuses (machineOf memory) (machineOf (send memory source destination body .memory))
+  send-refused f =
+      refuses (machineOf memory) (machineOf (send memory source destination body .memory)) (nodeOf (tableIn memory) source) goal-at (letterOf (headerOf (tableIn memory) source destination) body)
+      (send memory source destination body .answer) send-changes f
+
+  module _ (n : ℕ) (done : send memory source destination body .answer ≡ Done n) where
+    -- DONE: one letter more at the end of one queue
+    pub send-done : Sends (machineOf memory) (machineOf (send memory source destination body .memory)) (nodeOf (tableIn memory) source)
+        (placeOf (goalOf (nodeOf (tableIn memory) source) (nodeOf (tableIn memory) destination) (queueOf (tableIn memory) destination)))
+        n (letterOf (headerOf (tableIn memory) source destination) body)
+    send-done =
+        subst (λ (a : Sent). Change (machineOf memory) (machineOf (send memory source destination body .memory)) (nodeOf (tableIn memory) source) goal-at (letterOf (headerOf (tableIn memory) source destination) body) a)
+        done send-changes
+
+    -- between bound tasks alone, with the blocks that the letter needs
+    pub send-allowed : Allowed (settingsIn memory) (tableIn memory) source destination n (letterOf (headerOf (tableIn memory) source destination) body)
+    send-allowed =
+        split (sound memory)
+        (λ e. says memory e source destination body n done)
+        (λ e. absurd (let d = sym (ap (λ (o : Outcome). o .answer) (is-unsound e)) ∙ done in let z : _≡_ {A = ℕ} 0 1 = cc in omega arith))

@@ -7,6 +7,7 @@ use lib.ListN.{length, take, drop}
 use Rattle.settings.specs.declared.Settings.{Settings}
 use Rattle.tasks.specs.Table.{isBound}
 use Rattle.blocks.specs.Chain.{needs}
+use Rattle.sound.specs.Reading.{settingsIn, tableIn}
 use Rattle.posting.specs.declared.Goal.{Goal}
 use Rattle.posting.specs.declared.Goal.the-variants.{Task, Node}
 use Rattle.posting.specs.declared.Sent.{Sent}
@@ -22,6 +23,12 @@ placeOf (Node k) = 1 + k
 -- the letter that a send adds: its blocks are the first n of the free list
 abbrev pub newLetter : List ℕ → ℕ → List ℕ → Letter
 newLetter free n words = record { chain = take n free; words = words }
+
+-- done or refused, these words of the memory stay: how many there are, the settings, the task table
+pub record Fixed (memory memory′ : List ℕ) : Type 0 where
+  pub size : length memory′ ≡ length memory
+  pub settings : settingsIn memory′ ≡ settingsIn memory
+  pub table : tableIn memory′ ≡ tableIn memory
 
 -- whose turn it is and the postmen's positions are the same
 pub record Stands (m m′ : Machine) : Type 0 where
