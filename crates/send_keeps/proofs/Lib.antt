@@ -1,0 +1,6 @@
+pub mod Seats
+pub mod Letter
+pub mod After
+pub mod Refused
+pub mod Done
+pub mod Send
