@@ -1,3 +1,4 @@
+-- `copies::are_right_copies` meets its contract. Assumes nothing.
 use Rattle.copies.specs.Copy.{copyRight}
 use Rattle.sound.proofs.Tests.{every-none, turn-no, turn-more, turn-all}
 use Rattle.words.specs.Words.{every}
@@ -9,9 +10,6 @@ use mathlib.Core.Path.{_≡_, sym, _∙_}
 use borrow.Author.Needs.{needs}
 use Rattle.copies.proofs.are_right_copies.Statement.{statement}
 use Rattle.copies.proofs.are_right_copies.Tie as tie
-use Rattle.copies.proofs.are_right_copies.Reads as reads
-use Rattle.copies.proofs.are_right_copies.Lts as lts
-use Rattle.copies.proofs.is_right_copy.Reads as is-right-copy-reads
 
 abbrev Inv-loop : tie.InvT-loop
 Inv-loop memory s j₀ j = (j ≤ 6) × (every j (copyRight s memory) ≡ true)
@@ -19,31 +17,24 @@ Inv-loop memory s j₀ j = (j ≤ 6) × (every j (copyRight s memory) ≡ true)
 abbrev μ-loop : tie.MeasureT-loop
 μ-loop memory s j₀ j = 6 - j
 
--- src/lib.rt:107:5
 loop-holds : tie.Need-loop-holds Inv-loop μ-loop
 loop-holds c = (omega arith, every-none _)
 
--- src/lib.rt:108:13
 is-right-copy-requires : tie.Need-is-right-copy-requires Inv-loop μ-loop
 is-right-copy-requires c κs = search needs
 
--- src/lib.rt:109:13
 returns : tie.Need-returns Inv-loop μ-loop
 returns c = turn-no (copyRight (c .before .before .before .before .before .args .s) (c .before .before .before .before .before .args .memory .now)) 6 (c .before .before .before .loop .j) (omega arith) _ (c .before .is-right-copy .ensures) (not-true _ (c .if1 .taken))
 
--- src/lib.rt:111:9
 add-j : tie.Need-add-j Inv-loop μ-loop
 add-j c = search needs
 
--- src/lib.rt:107:5
 loop-less : tie.Need-loop-less Inv-loop μ-loop
 loop-less c = search needs
 
--- src/lib.rt:107:5
 loop-again : tie.Need-loop-again Inv-loop μ-loop
 loop-again c = (omega arith, turn-more (copyRight (c .before .before .before .before .before .args .s) (c .before .before .before .before .before .args .memory .now)) 6 (c .before .before .before .loop .j) (c .before .before .before .loop .inv .1) _ (c .before .is-right-copy .ensures) (not-false _ (c .if1 .left)))
 
--- src/lib.rt:102:1
 returns-2 : tie.Need-returns-2 Inv-loop μ-loop
 returns-2 c = turn-all (copyRight (c .before .before .before .args .s) (c .before .before .before .args .memory .now)) 6 (c .before .loop .j) (omega arith) (c .before .loop .inv .1)
 

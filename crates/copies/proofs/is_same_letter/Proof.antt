@@ -1,3 +1,4 @@
+-- `copies::is_same_letter` meets its contract. Assumes nothing.
 use Rattle.copies.proofs.Copied.{side-long, told-most, lies-side, letter-side, told-differ}
 use Rattle.visits.proofs.Read.{word-lies}
 use Rattle.words.specs.Words.{alike}
@@ -6,60 +7,43 @@ use mathlib.Core.Path.{_≡_, refl, sym, ap₂, _∙_}
 use borrow.Author.Needs.{needs}
 use Rattle.copies.proofs.is_same_letter.Statement.{statement}
 use Rattle.copies.proofs.is_same_letter.Tie as tie
-use Rattle.copies.proofs.is_same_letter.Reads as reads
-use Rattle.copies.proofs.is_same_letter.Lts as lts
-use Rattle.letters.proofs.told_length.Reads as told-length-reads
-use Rattle.copies.proofs.is_same_through.Reads as is-same-through-reads
 
--- src/lib.rt:71:13
 told-length-requires : tie.Need-told-length-requires
 told-length-requires c κs = word-lies (c .before .before .args .s) (c .before .before .args .a .now) (c .before .before .args .b) (c .before .before .pre .0) 4 (omega arith)
 
--- src/lib.rt:71:13
 cast-n : tie.Need-cast-n
 cast-n c = search needs
 
--- src/lib.rt:72:8
 told-length-requires-2 : tie.Need-told-length-requires-2
 told-length-requires-2 c κs = word-lies (c .before .before .before .args .s) (c .before .before .before .args .c .now) (c .before .before .before .args .d) (c .before .before .before .pre .1) 4 (omega arith)
 
--- src/lib.rt:72:8
 cast-if1 : tie.Need-cast-if1
 cast-if1 c = search needs
 
--- src/lib.rt:73:9
 returns : tie.Need-returns
 returns c = told-differ (c .before .before .before .before .before .args .s) (c .before .before .before .before .before .args .a .now) (c .before .before .before .before .before .args .b) (c .before .before .before .before .before .args .c .now) (c .before .before .before .before .before .args .d) (c .before .before .before .before .before .pre .0) (c .before .before .before .before .before .pre .1) (λ e. c .if1 .taken (c .before .told-length2 .ensures ∙ e ∙ sym (c .before .before .told-length .ensures)))
 
--- src/lib.rt:77:36
 sub-is-same-through : tie.Need-sub-is-same-through
 sub-is-same-through c = search needs
 
--- src/lib.rt:77:36
 part-x-start : tie.Need-part-x-start
 part-x-start c = search needs
 
--- src/lib.rt:77:36
 part-x-end : tie.Need-part-x-end
 part-x-end c = omega (arith, told-most (c .before .before .before .before .before .args .s) (c .before .before .before .before .before .args .a .now) (c .before .before .before .before .before .args .b) (c .before .before .before .before .before .pre .0) _ (c .before .before .told-length .ensures))
 
--- src/lib.rt:77:50
 sub-is-same-through-2 : tie.Need-sub-is-same-through-2
 sub-is-same-through-2 c = search needs
 
--- src/lib.rt:77:50
 part-y-start : tie.Need-part-y-start
 part-y-start c = search needs
 
--- src/lib.rt:77:50
 part-y-end : tie.Need-part-y-end
 part-y-end c = omega (arith, told-most (c .before .before .before .before .before .before .args .s) (c .before .before .before .before .before .before .args .a .now) (c .before .before .before .before .before .before .args .b) (c .before .before .before .before .before .before .pre .0) _ (c .before .before .before .told-length .ensures))
 
--- src/lib.rt:77:5
 is-same-through-requires : tie.Need-is-same-through-requires
 is-same-through-requires c κs = ((side-long (c .before .before .before .before .told-length .result) _ refl (told-most (c .before .before .before .before .before .before .before .args .s) (c .before .before .before .before .before .before .before .args .a .now) (c .before .before .before .before .before .before .before .args .b) (c .before .before .before .before .before .before .before .pre .0) _ (c .before .before .before .before .told-length .ensures))) ∙ sym (side-long (c .before .before .before .before .told-length .result) _ refl (told-most (c .before .before .before .before .before .before .before .args .s) (c .before .before .before .before .before .before .before .args .a .now) (c .before .before .before .before .before .before .before .args .b) (c .before .before .before .before .before .before .before .pre .0) _ (c .before .before .before .before .told-length .ensures))), (lies-side (c .before .before .before .before .before .before .before .args .s) (c .before .before .before .before .before .before .before .args .a .now) (c .before .before .before .before .before .before .before .args .b) (c .before .before .before .before .before .before .before .pre .0) _ _ (c .before .before .before .before .told-length .ensures) (side-long (c .before .before .before .before .told-length .result) _ refl (told-most (c .before .before .before .before .before .before .before .args .s) (c .before .before .before .before .before .before .before .args .a .now) (c .before .before .before .before .before .before .before .args .b) (c .before .before .before .before .before .before .before .pre .0) _ (c .before .before .before .before .told-length .ensures))), lies-side (c .before .before .before .before .before .before .before .args .s) (c .before .before .before .before .before .before .before .args .c .now) (c .before .before .before .before .before .before .before .args .d) (c .before .before .before .before .before .before .before .pre .1) _ _ (sym (c .before .before .if1 .left) ∙ c .before .before .before .told-length2 .ensures) (side-long (c .before .before .before .before .told-length .result) _ refl (told-most (c .before .before .before .before .before .before .before .args .s) (c .before .before .before .before .before .before .before .args .a .now) (c .before .before .before .before .before .before .before .args .b) (c .before .before .before .before .before .before .before .pre .0) _ (c .before .before .before .before .told-length .ensures)))))
 
--- src/lib.rt:66:1
 returns-2 : tie.Need-returns-2
 returns-2 c = c .before .before .is-same-through .ensures ∙ ap₂ alike (letter-side (c .before .before .before .before .before .before .before .before .before .before .args .s) (c .before .before .before .before .before .before .before .before .before .before .args .a .now) (c .before .before .before .before .before .before .before .before .before .before .args .b) (c .before .before .before .before .before .before .before .before .before .before .pre .0) _ _ (c .before .before .before .before .before .before .before .told-length .ensures) (side-long (c .before .before .before .before .before .before .before .told-length .result) _ refl (told-most (c .before .before .before .before .before .before .before .before .before .before .args .s) (c .before .before .before .before .before .before .before .before .before .before .args .a .now) (c .before .before .before .before .before .before .before .before .before .before .args .b) (c .before .before .before .before .before .before .before .before .before .before .pre .0) _ (c .before .before .before .before .before .before .before .told-length .ensures)))) (letter-side (c .before .before .before .before .before .before .before .before .before .before .args .s) (c .before .before .before .before .before .before .before .before .before .before .args .c .now) (c .before .before .before .before .before .before .before .before .before .before .args .d) (c .before .before .before .before .before .before .before .before .before .before .pre .1) _ _ (sym (c .before .before .before .before .before .if1 .left) ∙ c .before .before .before .before .before .before .told-length2 .ensures) (side-long (c .before .before .before .before .before .before .before .told-length .result) _ refl (told-most (c .before .before .before .before .before .before .before .before .before .before .args .s) (c .before .before .before .before .before .before .before .before .before .before .args .a .now) (c .before .before .before .before .before .before .before .before .before .before .args .b) (c .before .before .before .before .before .before .before .before .before .before .pre .0) _ (c .before .before .before .before .before .before .before .told-length .ensures))))
 

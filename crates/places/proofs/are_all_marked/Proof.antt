@@ -1,3 +1,4 @@
+-- `places::are_all_marked` meets its contract. Assumes nothing.
 use Rattle.places.specs.Given.{allMarked}
 use Rattle.sound.proofs.Tests.{every-none, turn-no, turn-more, turn-all}
 use Rattle.words.specs.Words.{every}
@@ -12,8 +13,6 @@ use mathlib.Core.Path.{_≡_, refl, sym, _∙_}
 use borrow.Author.Needs.{needs}
 use Rattle.places.proofs.are_all_marked.Statement.{statement}
 use Rattle.places.proofs.are_all_marked.Tie as tie
-use Rattle.places.proofs.are_all_marked.Reads as reads
-use Rattle.places.proofs.are_all_marked.Lts as lts
 
 abbrev Inv-loop : tie.InvT-loop
 Inv-loop marks m b₀ b = (b ≤ m) × (every b (λ b. eqb (getD marks (suc b) 0) 1) ≡ true)
@@ -21,40 +20,31 @@ Inv-loop marks m b₀ b = (b ≤ m) × (every b (λ b. eqb (getD marks (suc b) 0
 abbrev μ-loop : tie.MeasureT-loop
 μ-loop marks m b₀ b = m - b
 
--- src/lib.rt:176:5
 loop-holds : tie.Need-loop-holds Inv-loop μ-loop
 loop-holds c = (omega arith, every-none _)
 
--- src/lib.rt:177:18
 add-if1 : tie.Need-add-if1 Inv-loop μ-loop
 add-if1 c = search needs
 
--- src/lib.rt:177:12
 mul-if1 : tie.Need-mul-if1 Inv-loop μ-loop
 mul-if1 c = search needs
 
--- src/lib.rt:177:12
 shared-slice-read-if1 : tie.Need-shared-slice-read-if1 Inv-loop μ-loop
 shared-slice-read-if1 c = search needs
 
--- src/lib.rt:178:13
 returns : tie.Need-returns Inv-loop μ-loop
 unfolding allMarked
 returns c = turn-no (λ b. eqb (getD (c .before .before .before .before .args .marks .now) (suc b) 0) 1) (c .before .before .before .before .args .m) (c .before .before .before .loop .b) (omega arith) _ refl (ne-eqb _ 1 (rw (add-one (c .before .before .before .loop .b)) at (c .if1 .taken)))
 
--- src/lib.rt:180:9
 add-b : tie.Need-add-b Inv-loop μ-loop
 add-b c = search needs
 
--- src/lib.rt:176:5
 loop-less : tie.Need-loop-less Inv-loop μ-loop
 loop-less c = search needs
 
--- src/lib.rt:176:5
 loop-again : tie.Need-loop-again Inv-loop μ-loop
 loop-again c = (omega arith, turn-more (λ b. eqb (getD (c .before .before .before .before .args .marks .now) (suc b) 0) 1) (c .before .before .before .before .args .m) (c .before .before .before .loop .b) (c .before .before .before .loop .inv .1) _ refl (eq-eqb _ 1 (rw (add-one (c .before .before .before .loop .b)) at (c .if1 .left))))
 
--- src/lib.rt:171:1
 returns-2 : tie.Need-returns-2 Inv-loop μ-loop
 unfolding allMarked
 returns-2 c = turn-all (λ b. eqb (getD (c .before .before .args .marks .now) (suc b) 0) 1) (c .before .before .args .m) (c .before .loop .b) (omega arith) (c .before .loop .inv .1)

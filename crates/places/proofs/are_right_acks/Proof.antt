@@ -1,3 +1,4 @@
+-- `places::are_right_acks` meets its contract. Assumes nothing.
 use Prim.Native.Nat.{_-_}
 use Rattle.places.proofs.Begun.{lent-placing, ack-is, begun-ack, judged-same, node-lent}
 use native.Mathlib.Omega.{arith}
@@ -5,63 +6,43 @@ use mathlib.Core.Path.{_≡_, sym, _∙_}
 use borrow.Author.Needs.{needs}
 use Rattle.places.proofs.are_right_acks.Statement.{statement}
 use Rattle.places.proofs.are_right_acks.Tie as tie
-use Rattle.places.proofs.are_right_acks.Reads as reads
-use Rattle.places.proofs.are_right_acks.Lts as lts
-use Rattle.layout.proofs.ack_at.Reads as ack-at-reads
-use Rattle.layout.proofs.node_at.Reads as node-at-reads
-use Rattle.layout.proofs.node_size.Reads as node-size-reads
-use Rattle.queues.proofs.ack_kind.Reads as ack-kind-reads
-use Rattle.visits.proofs.are_right_letters.Reads as are-right-letters-reads
 
--- src/lib.rt:76:9
 node-size-requires : tie.Need-node-size-requires
 node-size-requires c κs = search needs
 
--- src/lib.rt:77:32
 sub-node-at : tie.Need-sub-node-at
 sub-node-at c = search needs
 
--- src/lib.rt:77:9
 node-at-requires : tie.Need-node-at-requires
 node-at-requires c κs = search needs
 
--- src/lib.rt:78:13
 add-e : tie.Need-add-e
 add-e c = search needs
 
--- src/lib.rt:79:9
 ack-kind-requires : tie.Need-ack-kind-requires
 ack-kind-requires c κs = search needs
 
--- src/lib.rt:80:9
 ack-at-requires : tie.Need-ack-at-requires
 ack-at-requires c κs = search needs
 
--- src/lib.rt:81:31
 mul-are-right-letters : tie.Need-mul-are-right-letters
 mul-are-right-letters c = search needs
 
--- src/lib.rt:81:31
 sub-are-right-letters : tie.Need-sub-are-right-letters
 sub-are-right-letters c = search needs
 
--- src/lib.rt:81:31
 part-are-right-letters-start : tie.Need-part-are-right-letters-start
 part-are-right-letters-start c = search needs
 
--- src/lib.rt:81:31
 part-are-right-letters-end : tie.Need-part-are-right-letters-end
 part-are-right-letters-end c = search needs
 
--- src/lib.rt:81:5
 are-right-letters-requires : tie.Need-are-right-letters-requires
 are-right-letters-requires c κs = (ack-is (c .before .before .before .before .before .before .before .before .before .before .before .args .s) (c .before .before .before .before .before .before .before .before .before .before .before .args .memory .now) (c .before .before .before .before .before .before .before .before .before .before .before .args .node .now) (c .before .before .before .before .before .before .before .before .before .before .before .args .table .now) (c .before .before .before .before .before .before .before .before .before .before .before .args .seats .now) (c .before .before .before .before .before .before .before .before .before .before .before .args .i) (c .before .before .before .before .before .before .before .before .before .before .before .pre .0) _ _ (c .before .before .before .before .before .before .before .before .before .before .before .args .p) _ (c .before .before .before .before .before .before .before .before .before .before .before .pre .1 .0 .0) (c .before .before .before .before .before .before .before .before .before .before .before .pre .1 .0 .1) (node-lent (c .before .before .before .before .before .before .before .before .before .before .before .args .s) (c .before .before .before .before .before .before .before .before .before .before .before .args .memory .now) (c .before .before .before .before .before .before .before .before .before .before .before .args .p - 7) _ _ (c .before .before .before .before .node-at .ensures .is) (c .before .before .before .before .before .node-size .ensures .is)) (c .before .before .before .ack-kind .ensures) (c .before .before .ack-at .ensures .is), (lent-placing (c .before .before .before .before .before .before .before .before .before .before .before .args .s) (c .before .before .before .before .before .before .before .before .before .before .before .args .memory .now) (c .before .before .before .before .before .before .before .before .before .before .before .args .node .now) (c .before .before .before .before .before .before .before .before .before .before .before .args .table .now) (c .before .before .before .before .before .before .before .before .before .before .before .args .seats .now) (c .before .before .before .before .before .before .before .before .before .before .before .args .i) (c .before .before .before .before .before .before .before .before .before .before .before .pre .0) (c .before .before .before .before .before .before .before .before .before .before .before .args .p) (omega arith), c .before .before .before .before .before .before .before .before .before .before .before .pre .1 .1))
 
--- src/lib.rt:61:1
 same-length : tie.Need-same-length
 same-length c = search needs
 
--- src/lib.rt:61:1
 returns : tie.Need-returns
 returns c = judged-same (c .before .before .before .before .before .before .before .before .before .before .before .before .before .before .args .s) (c .before .before .before .before .before .before .before .before .before .before .before .before .before .before .args .node .now) (c .before .before .before .before .before .before .before .before .before .before .before .before .before .before .args .table .now) (c .before .before .before .before .before .before .before .before .before .before .before .before .before .before .args .i) (c .before .before .before .before .before .before .before .before .before .before .before .before .before .before .args .p) (c .before .before .before .before .before .before .before .before .before .before .before .before .before .before .args .marks .now) _ _ _ _ (begun-ack (c .before .before .before .before .before .before .before .before .before .before .before .before .before .before .args .s) (c .before .before .before .before .before .before .before .before .before .before .before .before .before .before .args .memory .now) (c .before .before .before .before .before .before .before .before .before .before .before .before .before .before .args .node .now) (c .before .before .before .before .before .before .before .before .before .before .before .before .before .before .args .table .now) (c .before .before .before .before .before .before .before .before .before .before .before .before .before .before .args .seats .now) (c .before .before .before .before .before .before .before .before .before .before .before .before .before .before .args .i) (c .before .before .before .before .before .before .before .before .before .before .before .before .before .before .pre .0) _ _ (c .before .before .before .before .before .before .before .before .before .before .before .before .before .before .args .p) _ (c .before .before .before .before .before .before .before .before .before .before .before .before .before .before .pre .1 .0 .0) (c .before .before .before .before .before .before .before .before .before .before .before .before .before .before .pre .1 .0 .1) (node-lent (c .before .before .before .before .before .before .before .before .before .before .before .before .before .before .args .s) (c .before .before .before .before .before .before .before .before .before .before .before .before .before .before .args .memory .now) (c .before .before .before .before .before .before .before .before .before .before .before .before .before .before .args .p - 7) _ _ (c .before .before .before .before .before .before .before .node-at .ensures .is) (c .before .before .before .before .before .before .before .before .node-size .ensures .is)) (c .before .before .before .before .before .before .ack-kind .ensures) (c .before .before .before .before .before .ack-at .ensures .is)) (c .before .before .are-right-letters .ensures)
 

@@ -1,3 +1,4 @@
+-- `places::are_right_at` meets its contract. Assumes nothing.
 use Rattle.visits.specs.Letters.{lettersRight, Judged}
 use Rattle.visits.specs.Marks.{marked}
 use Rattle.sound.specs.Blocks.{begun, chains}
@@ -7,58 +8,40 @@ use mathlib.Core.Path.{_≡_, refl, sym, subst, _∙_}
 use borrow.Author.Needs.{needs}
 use Rattle.places.proofs.are_right_at.Statement.{statement}
 use Rattle.places.proofs.are_right_at.Tie as tie
-use Rattle.places.proofs.are_right_at.Reads as reads
-use Rattle.places.proofs.are_right_at.Lts as lts
-use Rattle.places.proofs.are_right_acks.Reads as are-right-acks-reads
-use Rattle.places.proofs.are_right_sends.Reads as are-right-sends-reads
-use Rattle.places.proofs.are_right_tasks.Reads as are-right-tasks-reads
-use Rattle.places.proofs.is_right_hand.Reads as is-right-hand-reads
 
--- src/lib.rt:122:9
 is-right-hand-requires : tie.Need-is-right-hand-requires
 is-right-hand-requires c κs = search needs
 
--- src/lib.rt:122:9
 same-length : tie.Need-same-length
 same-length c = search needs
 
--- src/lib.rt:122:9
 returns : tie.Need-returns
 returns c = subst (λ (p : ℕ). Judged (lettersRight (c .before .before .before .before .before .before .before .before .before .before .args .s) (c .before .before .before .before .before .before .before .before .before .before .args .node .now) (c .before .before .before .before .before .before .before .before .before .before .args .table .now) (c .before .before .before .before .before .before .before .before .before .before .args .i) p (c .before .before .before .before .before .before .before .before .before .before .args .marks .now) (begun (c .before .before .before .before .before .before .before .before .before .before .args .s) (c .before .before .before .before .before .before .before .before .before .before .args .memory .now) (c .before .before .before .before .before .before .before .before .before .before .args .i) p)) (marked (c .before .before .before .before .before .before .before .before .before .before .args .marks .now) (chains (c .before .before .before .before .before .before .before .before .before .before .args .s) (c .before .before .before .before .before .before .before .before .before .before .args .node .now) (begun (c .before .before .before .before .before .before .before .before .before .before .args .s) (c .before .before .before .before .before .before .before .before .before .before .args .memory .now) (c .before .before .before .before .before .before .before .before .before .before .args .i) p))) (c .before .before .is-right-hand .result) (c .before .before .is-right-hand .last .1 .1 .1 .1 .1 .0)) (sym (c .before .before .before .before .if1 .taken)) (c .before .before .is-right-hand .ensures)
 
--- src/lib.rt:125:9
 are-right-sends-requires : tie.Need-are-right-sends-requires
 are-right-sends-requires c κs = (c .before .before .before .before .before .before .before .before .pre .0, ((omega arith, omega arith), c .before .before .before .before .before .before .before .before .pre .1 .1))
 
--- src/lib.rt:125:9
 same-length-2 : tie.Need-same-length-2
 same-length-2 c = search needs
 
--- src/lib.rt:125:9
 returns-2 : tie.Need-returns-2
 returns-2 c = search needs
 
--- src/lib.rt:128:9
 are-right-acks-requires : tie.Need-are-right-acks-requires
 are-right-acks-requires c κs = search needs
 
--- src/lib.rt:128:9
 same-length-3 : tie.Need-same-length-3
 same-length-3 c = search needs
 
--- src/lib.rt:128:9
 returns-3 : tie.Need-returns-3
 returns-3 c = search needs
 
--- src/lib.rt:130:5
 are-right-tasks-requires : tie.Need-are-right-tasks-requires
 are-right-tasks-requires c κs = search needs
 
--- src/lib.rt:106:1
 same-length-4 : tie.Need-same-length-4
 same-length-4 c = search needs
 
--- src/lib.rt:106:1
 returns-4 : tie.Need-returns-4
 returns-4 c = search needs
 

@@ -1,36 +1,26 @@
+-- `places::are_right_sends` meets its contract. Assumes nothing.
 use Rattle.places.proofs.Begun.{lent-placing, send-is, begun-send, judged-same}
 use native.Mathlib.Omega.{arith}
 use mathlib.Core.Path.{_≡_, sym, _∙_}
 use borrow.Author.Needs.{needs}
 use Rattle.places.proofs.are_right_sends.Statement.{statement}
 use Rattle.places.proofs.are_right_sends.Tie as tie
-use Rattle.places.proofs.are_right_sends.Reads as reads
-use Rattle.places.proofs.are_right_sends.Lts as lts
-use Rattle.layout.proofs.send_at.Reads as send-at-reads
-use Rattle.queues.proofs.send_kind.Reads as send-kind-reads
-use Rattle.visits.proofs.are_right_letters.Reads as are-right-letters-reads
 
--- src/lib.rt:55:9
 send-kind-requires : tie.Need-send-kind-requires
 send-kind-requires c κs = search needs
 
--- src/lib.rt:56:32
 sub-send-at : tie.Need-sub-send-at
 sub-send-at c = search needs
 
--- src/lib.rt:56:9
 send-at-requires : tie.Need-send-at-requires
 send-at-requires c κs = search needs
 
--- src/lib.rt:57:5
 are-right-letters-requires : tie.Need-are-right-letters-requires
 are-right-letters-requires c κs = (send-is (c .before .before .before .before .before .before .before .before .args .s) (c .before .before .before .before .before .before .before .before .args .memory .now) (c .before .before .before .before .before .before .before .before .args .node .now) (c .before .before .before .before .before .before .before .before .args .table .now) (c .before .before .before .before .before .before .before .before .args .seats .now) (c .before .before .before .before .before .before .before .before .args .i) (c .before .before .before .before .before .before .before .before .pre .0) _ _ (c .before .before .before .before .before .before .before .before .args .p) (c .before .before .before .before .before .before .before .before .pre .1 .0 .0) (c .before .before .before .before .before .before .before .before .pre .1 .0 .1) (c .before .before .send-kind .ensures) (c .before .send-at .ensures .is), (lent-placing (c .before .before .before .before .before .before .before .before .args .s) (c .before .before .before .before .before .before .before .before .args .memory .now) (c .before .before .before .before .before .before .before .before .args .node .now) (c .before .before .before .before .before .before .before .before .args .table .now) (c .before .before .before .before .before .before .before .before .args .seats .now) (c .before .before .before .before .before .before .before .before .args .i) (c .before .before .before .before .before .before .before .before .pre .0) (c .before .before .before .before .before .before .before .before .args .p) (omega arith), c .before .before .before .before .before .before .before .before .pre .1 .1))
 
--- src/lib.rt:40:1
 same-length : tie.Need-same-length
 same-length c = search needs
 
--- src/lib.rt:40:1
 returns : tie.Need-returns
 returns c = judged-same (c .before .before .before .before .before .before .before .before .before .before .before .args .s) (c .before .before .before .before .before .before .before .before .before .before .before .args .node .now) (c .before .before .before .before .before .before .before .before .before .before .before .args .table .now) (c .before .before .before .before .before .before .before .before .before .before .before .args .i) (c .before .before .before .before .before .before .before .before .before .before .before .args .p) (c .before .before .before .before .before .before .before .before .before .before .before .args .marks .now) _ _ _ _ (begun-send (c .before .before .before .before .before .before .before .before .before .before .before .args .s) (c .before .before .before .before .before .before .before .before .before .before .before .args .memory .now) (c .before .before .before .before .before .before .before .before .before .before .before .args .node .now) (c .before .before .before .before .before .before .before .before .before .before .before .args .table .now) (c .before .before .before .before .before .before .before .before .before .before .before .args .seats .now) (c .before .before .before .before .before .before .before .before .before .before .before .args .i) (c .before .before .before .before .before .before .before .before .before .before .before .pre .0) _ _ (c .before .before .before .before .before .before .before .before .before .before .before .args .p) (c .before .before .before .before .before .before .before .before .before .before .before .pre .1 .0 .0) (c .before .before .before .before .before .before .before .before .before .before .before .pre .1 .0 .1) (c .before .before .before .before .before .send-kind .ensures) (c .before .before .before .before .send-at .ensures .is)) (c .before .before .are-right-letters .ensures)
 

@@ -1,3 +1,4 @@
+-- `places::is_right_hand` meets its contract. Assumes nothing.
 use Rattle.places.proofs.Begun.{lent-placing, hand-none, begun-held, judged-same}
 use Rattle.layout.proofs.Fits.{nodes-fit}
 use native.Mathlib.Omega.{arith}
@@ -5,51 +6,37 @@ use mathlib.Core.Path.{_≡_, sym, _∙_}
 use borrow.Author.Needs.{needs}
 use Rattle.places.proofs.is_right_hand.Statement.{statement}
 use Rattle.places.proofs.is_right_hand.Tie as tie
-use Rattle.places.proofs.is_right_hand.Reads as reads
-use Rattle.places.proofs.is_right_hand.Lts as lts
-use Rattle.visits.proofs.is_right_letter.Reads as is-right-letter-reads
 
--- src/lib.rt:32:18
 mul-at : tie.Need-mul-at
 mul-at c = omega (arith, c .before .before .before .before .before .pre .0 .small)
 
--- src/lib.rt:32:14
 add-at : tie.Need-add-at
 add-at c = omega (arith, c .before .before .before .before .before .pre .0 .small)
 
--- src/lib.rt:33:8
 mul-if1 : tie.Need-mul-if1
 mul-if1 c = omega (arith, c .before .before .before .before .before .pre .0 .small, c .before .before .before .before .before .pre .0 .looked .sized .long, nodes-fit (c .before .before .before .before .before .args .s))
 
--- src/lib.rt:33:8
 shared-slice-read-if1 : tie.Need-shared-slice-read-if1
 shared-slice-read-if1 c = omega (arith, c .before .before .before .before .before .before .pre .0 .small, c .before .before .before .before .before .before .pre .0 .looked .sized .long, nodes-fit (c .before .before .before .before .before .before .args .s))
 
--- src/lib.rt:34:9
 returns : tie.Need-returns
 returns c = hand-none (c .before .before .before .before .before .before .before .args .s) (c .before .before .before .before .before .before .before .args .memory .now) (c .before .before .before .before .before .before .before .args .node .now) (c .before .before .before .before .before .before .before .args .table .now) (c .before .before .before .before .before .before .before .args .seats .now) (c .before .before .before .before .before .before .before .args .i) (c .before .before .before .before .before .before .before .pre .0) (c .before .before .before .before .before .before .before .args .marks .now) (c .if1 .taken)
 
--- src/lib.rt:36:72
 add-is-right-letter : tie.Need-add-is-right-letter
 add-is-right-letter c = omega (arith, c .before .before .before .before .before .before .before .before .pre .0 .small)
 
--- src/lib.rt:36:65
 mul-is-right-letter : tie.Need-mul-is-right-letter
 mul-is-right-letter c = omega (arith, c .before .before .before .before .before .before .before .before .pre .0 .small, c .before .before .before .before .before .before .before .before .pre .0 .looked .sized .long, nodes-fit (c .before .before .before .before .before .before .before .before .args .s))
 
--- src/lib.rt:36:65
 shared-slice-read-is-right-letter : tie.Need-shared-slice-read-is-right-letter
 shared-slice-read-is-right-letter c = omega (arith, c .before .before .before .before .before .before .before .before .before .pre .0 .small, c .before .before .before .before .before .before .before .before .before .pre .0 .looked .sized .long, nodes-fit (c .before .before .before .before .before .before .before .before .before .args .s))
 
--- src/lib.rt:36:5
 is-right-letter-requires : tie.Need-is-right-letter-requires
 is-right-letter-requires c κs = (lent-placing (c .before .before .before .before .before .before .before .before .before .args .s) (c .before .before .before .before .before .before .before .before .before .args .memory .now) (c .before .before .before .before .before .before .before .before .before .args .node .now) (c .before .before .before .before .before .before .before .before .before .args .table .now) (c .before .before .before .before .before .before .before .before .before .args .seats .now) (c .before .before .before .before .before .before .before .before .before .args .i) (c .before .before .before .before .before .before .before .before .before .pre .0) 0 (omega arith), c .before .before .before .before .before .before .before .before .before .pre .1)
 
--- src/lib.rt:19:1
 same-length : tie.Need-same-length
 same-length c = search needs
 
--- src/lib.rt:19:1
 returns-2 : tie.Need-returns-2
 returns-2 c = judged-same (c .before .before .before .before .before .before .before .before .before .before .before .before .args .s) (c .before .before .before .before .before .before .before .before .before .before .before .before .args .node .now) (c .before .before .before .before .before .before .before .before .before .before .before .before .args .table .now) (c .before .before .before .before .before .before .before .before .before .before .before .before .args .i) 0 (c .before .before .before .before .before .before .before .before .before .before .before .before .args .marks .now) _ _ _ _ (begun-held (c .before .before .before .before .before .before .before .before .before .before .before .before .args .s) (c .before .before .before .before .before .before .before .before .before .before .before .before .args .memory .now) (c .before .before .before .before .before .before .before .before .before .before .before .before .args .node .now) (c .before .before .before .before .before .before .before .before .before .before .before .before .args .table .now) (c .before .before .before .before .before .before .before .before .before .before .before .before .args .seats .now) (c .before .before .before .before .before .before .before .before .before .before .before .before .args .i) (c .before .before .before .before .before .before .before .before .before .before .before .before .pre .0) (c .before .before .before .before .before .if1 .left)) (c .before .before .is-right-letter .ensures)
 

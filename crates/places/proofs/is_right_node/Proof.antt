@@ -1,3 +1,4 @@
+-- `places::is_right_node` meets its contract. Assumes nothing.
 use Rattle.places.proofs.Once.{blank-start}
 use Rattle.places.proofs.Begun.{node-lent}
 use Rattle.layout.proofs.Fits.{nodes-fit}
@@ -6,61 +7,43 @@ use native.Mathlib.Omega.{arith}
 use borrow.Author.Needs.{needs}
 use Rattle.places.proofs.is_right_node.Statement.{statement}
 use Rattle.places.proofs.is_right_node.Tie as tie
-use Rattle.places.proofs.is_right_node.Reads as reads
-use Rattle.places.proofs.is_right_node.Lts as lts
-use Rattle.layout.proofs.node_at.Reads as node-at-reads
-use Rattle.layout.proofs.node_size.Reads as node-size-reads
-use Rattle.places.proofs.is_right_marked.Reads as is-right-marked-reads
 
--- src/lib.rt:216:9
 node-size-requires : tie.Need-node-size-requires
 node-size-requires c κs = search needs
 
--- src/lib.rt:217:9
 node-at-requires : tie.Need-node-at-requires
 node-at-requires c κs = search needs
 
--- src/lib.rt:218:13
 add-e : tie.Need-add-e
 add-e c = search needs
 
--- src/lib.rt:221:9
 mul-is-right-marked : tie.Need-mul-is-right-marked
 mul-is-right-marked c = search needs
 
--- src/lib.rt:221:9
 sub-is-right-marked : tie.Need-sub-is-right-marked
 sub-is-right-marked c = search needs
 
--- src/lib.rt:221:9
 part-is-right-marked-start : tie.Need-part-is-right-marked-start
 part-is-right-marked-start c = search needs
 
--- src/lib.rt:221:9
 part-is-right-marked-end : tie.Need-part-is-right-marked-end
 part-is-right-marked-end c = search needs
 
--- src/lib.rt:223:9
 sub-is-right-marked-2 : tie.Need-sub-is-right-marked-2
 sub-is-right-marked-2 c = search needs
 
--- src/lib.rt:223:9
 part-is-right-marked-start-2 : tie.Need-part-is-right-marked-start-2
 part-is-right-marked-start-2 c = search needs
 
--- src/lib.rt:223:9
 part-is-right-marked-end-2 : tie.Need-part-is-right-marked-end-2
 part-is-right-marked-end-2 c = omega (arith, c .before .before .before .before .before .pre .0 .sized .long, nodes-fit (c .before .before .before .before .before .args .s))
 
--- src/lib.rt:225:9
 slice-aggregate-is-right-marked : tie.Need-slice-aggregate-is-right-marked
 slice-aggregate-is-right-marked c = search needs
 
--- src/lib.rt:219:5
 is-right-marked-requires : tie.Need-is-right-marked-requires
 is-right-marked-requires c κs = (record { looked = c .before .before .before .before .before .before .before .pre .0; small = c .before .before .before .before .before .before .before .pre .1 .1; stretch = node-lent (c .before .before .before .before .before .before .before .args .s) (c .before .before .before .before .before .before .before .args .memory .now) (c .before .before .before .before .before .before .before .args .i) _ _ (c .before .before .before .node-at .ensures .is) (c .before .before .before .before .node-size .ensures .is); table = refl; seats = c .before .before .before .before .before .before .before .pre .1 .0 }, blank-start)
 
--- src/lib.rt:209:1
 returns : tie.Need-returns
 returns c = search needs
 

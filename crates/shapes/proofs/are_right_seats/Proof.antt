@@ -1,3 +1,4 @@
+-- `shapes::are_right_seats` meets its contract. Assumes nothing.
 use Rattle.sound.proofs.Given.{placed-task}
 use Rattle.shapes.specs.Shape.{rightSeat, rightSeats}
 use Rattle.shapes.specs.Seats.{seatAt}
@@ -16,11 +17,6 @@ use mathlib.Core.Path.{_≡_, sym, ap, ap₂, _∙_}
 use borrow.Author.Needs.{needs}
 use Rattle.shapes.proofs.are_right_seats.Statement.{statement}
 use Rattle.shapes.proofs.are_right_seats.Tie as tie
-use Rattle.shapes.proofs.are_right_seats.Reads as reads
-use Rattle.shapes.proofs.are_right_seats.Lts as lts
-use Rattle.layout.proofs.task_at.Reads as task-at-reads
-use Rattle.queues.proofs.task_kind.Reads as task-kind-reads
-use Rattle.shapes.proofs.is_right_seat.Reads as is-right-seat-reads
 
 abbrev Inv-loop : tie.InvT-loop
 Inv-loop node s seats i kind q₀ q = (q ≤ 64) × (every q (λ q. rightSeat (taskKind s) node (taskAt s q) (s .m) (getD seats (seatAt i q) 0)) ≡ true)
@@ -28,53 +24,41 @@ Inv-loop node s seats i kind q₀ q = (q ≤ 64) × (every q (λ q. rightSeat (t
 abbrev μ-loop : tie.MeasureT-loop
 μ-loop node s seats i kind q₀ q = 64 - q
 
--- src/lib.rt:174:9
 task-kind-requires : tie.Need-task-kind-requires Inv-loop μ-loop
 task-kind-requires c κs = search needs
 
--- src/lib.rt:176:5
 loop-holds : tie.Need-loop-holds Inv-loop μ-loop
 loop-holds c = (omega arith, every-none _)
 
--- src/lib.rt:177:13
 task-at-requires : tie.Need-task-at-requires Inv-loop μ-loop
 task-at-requires c κs = search needs
 
--- src/lib.rt:178:26
 mul-task : tie.Need-mul-task Inv-loop μ-loop
 mul-task c = search needs
 
--- src/lib.rt:178:26
 add-task : tie.Need-add-task Inv-loop μ-loop
 add-task c = search needs
 
--- src/lib.rt:178:20
 mul-task-2 : tie.Need-mul-task-2 Inv-loop μ-loop
 mul-task-2 c = search needs
 
--- src/lib.rt:178:20
 shared-slice-read-task : tie.Need-shared-slice-read-task Inv-loop μ-loop
 shared-slice-read-task c = search needs
 
--- src/lib.rt:179:13
 is-right-seat-requires : tie.Need-is-right-seat-requires Inv-loop μ-loop
 is-right-seat-requires c κs = (placed-task (c .before .before .before .before .before .before .before .args .s) (c .before .before .before .before .before .before .before .args .node .now) (c .before .before .before .before .before .before .before .pre .0) _ _ (c .before .before .before .before .task-kind .ensures) (c .before .task-at .ensures .fits), omega (arith, ap (λ (K : Kind). K .head) (c .before .before .before .before .task-kind .ensures)))
 
--- src/lib.rt:180:13
 returns : tie.Need-returns Inv-loop μ-loop
 unfolding rightSeats
 returns c = turn-no (λ q. rightSeat (taskKind (c .before .before .before .before .before .before .before .before .before .args .s)) (c .before .before .before .before .before .before .before .before .before .args .node .now) (taskAt (c .before .before .before .before .before .before .before .before .before .args .s) q) (c .before .before .before .before .before .before .before .before .before .args .s .m) (getD (c .before .before .before .before .before .before .before .before .before .args .seats .now) (seatAt (c .before .before .before .before .before .before .before .before .before .args .i) q) 0)) 64 (c .before .before .before .before .before .loop .q) (omega arith) _
     (c .before .is-right-seat .ensures ∙ ap₂ (λ (K : Kind) (a : ℕ). rightSeat K (c .before .before .before .before .before .before .before .before .before .args .node .now) a (c .before .before .before .before .before .before .before .before .before .args .s .m) (getD (c .before .before .before .before .before .before .before .before .before .args .seats .now) (seatAt (c .before .before .before .before .before .before .before .before .before .args .i) (c .before .before .before .before .before .loop .q)) 0)) (c .before .before .before .before .before .before .task-kind .ensures) (c .before .before .before .task-at .ensures .is)) (not-true _ (c .if1 .taken))
 
--- src/lib.rt:182:9
 add-q : tie.Need-add-q Inv-loop μ-loop
 add-q c = search needs
 
--- src/lib.rt:176:5
 loop-less : tie.Need-loop-less Inv-loop μ-loop
 loop-less c = search needs
 
--- src/lib.rt:176:5
 loop-again : tie.Need-loop-again Inv-loop μ-loop
 loop-again c = (
   omega arith,
@@ -82,7 +66,6 @@ loop-again c = (
       (c .before .is-right-seat .ensures ∙ ap₂ (λ (K : Kind) (a : ℕ). rightSeat K (c .before .before .before .before .before .before .before .before .before .args .node .now) a (c .before .before .before .before .before .before .before .before .before .args .s .m) (getD (c .before .before .before .before .before .before .before .before .before .args .seats .now) (seatAt (c .before .before .before .before .before .before .before .before .before .args .i) (c .before .before .before .before .before .loop .q)) 0)) (c .before .before .before .before .before .before .task-kind .ensures) (c .before .before .before .task-at .ensures .is)) (not-false _ (c .if1 .left)),
 )
 
--- src/lib.rt:168:1
 returns-2 : tie.Need-returns-2 Inv-loop μ-loop
 unfolding rightSeats
 returns-2 c = turn-all (λ q. rightSeat (taskKind (c .before .before .before .before .before .args .s)) (c .before .before .before .before .before .args .node .now) (taskAt (c .before .before .before .before .before .args .s) q) (c .before .before .before .before .before .args .s .m) (getD (c .before .before .before .before .before .args .seats .now) (seatAt (c .before .before .before .before .before .args .i) q) 0)) 64 (c .before .loop .q) (omega arith) (c .before .loop .inv .1)

@@ -1,3 +1,4 @@
+-- `shapes::are_right_sends` meets its contract. Assumes nothing.
 use Rattle.sound.proofs.Given.{placed-send}
 use Rattle.shapes.specs.Shape.{rightPost, rightSends}
 use Rattle.sound.proofs.Tests.{every-none, turn-no, turn-more, turn-all}
@@ -14,11 +15,6 @@ use mathlib.Core.Path.{_≡_, sym, ap₂, _∙_}
 use borrow.Author.Needs.{needs}
 use Rattle.shapes.proofs.are_right_sends.Statement.{statement}
 use Rattle.shapes.proofs.are_right_sends.Tie as tie
-use Rattle.shapes.proofs.are_right_sends.Reads as reads
-use Rattle.shapes.proofs.are_right_sends.Lts as lts
-use Rattle.layout.proofs.send_at.Reads as send-at-reads
-use Rattle.queues.proofs.send_kind.Reads as send-kind-reads
-use Rattle.shapes.proofs.is_right_post.Reads as is-right-post-reads
 
 abbrev Inv-loop : tie.InvT-loop
 Inv-loop node s i kind k₀ k = (k ≤ 6) × (every k (λ k. rightPost (sendKind s) node (sendAt s k) (s .m) (eqb k i)) ≡ true)
@@ -26,37 +22,29 @@ Inv-loop node s i kind k₀ k = (k ≤ 6) × (every k (λ k. rightPost (sendKind
 abbrev μ-loop : tie.MeasureT-loop
 μ-loop node s i kind k₀ k = 6 - k
 
--- src/lib.rt:138:9
 send-kind-requires : tie.Need-send-kind-requires Inv-loop μ-loop
 send-kind-requires c κs = search needs
 
--- src/lib.rt:140:5
 loop-holds : tie.Need-loop-holds Inv-loop μ-loop
 loop-holds c = (omega arith, every-none _)
 
--- src/lib.rt:141:13
 send-at-requires : tie.Need-send-at-requires Inv-loop μ-loop
 send-at-requires c κs = search needs
 
--- src/lib.rt:142:13
 is-right-post-requires : tie.Need-is-right-post-requires Inv-loop μ-loop
 is-right-post-requires c κs = placed-send (c .before .before .before .before .before .args .s) (c .before .before .before .before .before .args .node .now) (c .before .before .before .before .before .pre) _ _ (c .before .before .before .send-kind .ensures) (c .send-at .ensures .fits)
 
--- src/lib.rt:143:13
 returns : tie.Need-returns Inv-loop μ-loop
 unfolding rightSends
 returns c = turn-no (λ k. rightPost (sendKind (c .before .before .before .before .before .before .before .args .s)) (c .before .before .before .before .before .before .before .args .node .now) (sendAt (c .before .before .before .before .before .before .before .args .s) k) (c .before .before .before .before .before .before .before .args .s .m) (eqb k (c .before .before .before .before .before .before .before .args .i))) 6 (c .before .before .before .before .loop .k) (omega arith) _
     (c .before .is-right-post .ensures ∙ ap₂ (λ (K : Kind) (a : ℕ). rightPost K (c .before .before .before .before .before .before .before .args .node .now) a (c .before .before .before .before .before .before .before .args .s .m) (eqb (c .before .before .before .before .loop .k) (c .before .before .before .before .before .before .before .args .i))) (c .before .before .before .before .before .send-kind .ensures) (c .before .before .send-at .ensures .is)) (not-true _ (c .if1 .taken))
 
--- src/lib.rt:145:9
 add-k : tie.Need-add-k Inv-loop μ-loop
 add-k c = search needs
 
--- src/lib.rt:140:5
 loop-less : tie.Need-loop-less Inv-loop μ-loop
 loop-less c = search needs
 
--- src/lib.rt:140:5
 loop-again : tie.Need-loop-again Inv-loop μ-loop
 loop-again c = (
   omega arith,
@@ -64,7 +52,6 @@ loop-again c = (
       (c .before .is-right-post .ensures ∙ ap₂ (λ (K : Kind) (a : ℕ). rightPost K (c .before .before .before .before .before .before .before .args .node .now) a (c .before .before .before .before .before .before .before .args .s .m) (eqb (c .before .before .before .before .loop .k) (c .before .before .before .before .before .before .before .args .i))) (c .before .before .before .before .before .send-kind .ensures) (c .before .before .send-at .ensures .is)) (not-false _ (c .if1 .left)),
 )
 
--- src/lib.rt:134:1
 returns-2 : tie.Need-returns-2 Inv-loop μ-loop
 unfolding rightSends
 returns-2 c = turn-all (λ k. rightPost (sendKind (c .before .before .before .before .args .s)) (c .before .before .before .before .args .node .now) (sendAt (c .before .before .before .before .args .s) k) (c .before .before .before .before .args .s .m) (eqb k (c .before .before .before .before .args .i))) 6 (c .before .loop .k) (omega arith) (c .before .loop .inv .1)

@@ -1,3 +1,4 @@
+-- `shapes::are_within` meets its contract. Assumes nothing.
 use Rattle.shapes.proofs.Steps.{within-low, within-high, within-more, within-none}
 use Rattle.shapes.specs.Shape.{itemsWithin}
 use Rattle.queues.specs.Queue.{run, contents}
@@ -7,10 +8,6 @@ use mathlib.Core.Path.{_≡_, ap}
 use borrow.Author.Needs.{needs}
 use Rattle.shapes.proofs.are_within.Statement.{statement}
 use Rattle.shapes.proofs.are_within.Tie as tie
-use Rattle.shapes.proofs.are_within.Reads as reads
-use Rattle.shapes.proofs.are_within.Lts as lts
-use Rattle.queues.proofs.item.Reads as item-reads
-use Rattle.queues.proofs.items_of.Reads as items-of-reads
 
 abbrev Inv-loop : tie.InvT-loop
 Inv-loop node k q least most count i₀ i = (i ≤ count) × (itemsWithin least most (contents k node q) ≡ itemsWithin least most (run k node q i (count - i)))
@@ -18,43 +15,33 @@ Inv-loop node k q least most count i₀ i = (i ≤ count) × (itemsWithin least 
 abbrev μ-loop : tie.MeasureT-loop
 μ-loop node k q least most count i₀ i = count - i
 
--- src/lib.rt:80:9
 items-of-requires : tie.Need-items-of-requires Inv-loop μ-loop
 items-of-requires c κs = search needs
 
--- src/lib.rt:82:5
 loop-holds : tie.Need-loop-holds Inv-loop μ-loop
 loop-holds c = (omega arith, ap (λ (n : ℕ). itemsWithin (c .before .before .args .least) (c .before .before .args .most) (run (c .before .before .args .k) (c .before .before .args .node .now) (c .before .before .args .q) 0 n)) (omega (arith, c .items-of .ensures)))
 
--- src/lib.rt:83:17
 item-requires : tie.Need-item-requires Inv-loop μ-loop
 item-requires c κs = search needs
 
--- src/lib.rt:83:17
 cast-b : tie.Need-cast-b Inv-loop μ-loop
 cast-b c = search needs
 
--- src/lib.rt:85:13
 returns : tie.Need-returns Inv-loop μ-loop
 returns c = within-low (c .before .before .before .before .before .before .args .k) (c .before .before .before .before .before .before .args .node .now) (c .before .before .before .before .before .before .args .q) (c .before .before .before .before .before .before .args .least) (c .before .before .before .before .before .before .args .most) (c .before .before .before .loop .i) (c .before .before .before .before .items-of .result) _ (c .before .before .before .loop .inv .1) (omega arith) (omega (arith, c .before .item .ensures))
 
--- src/lib.rt:88:13
 returns-2 : tie.Need-returns-2 Inv-loop μ-loop
 returns-2 c = within-high (c .before .before .before .before .before .before .before .args .k) (c .before .before .before .before .before .before .before .args .node .now) (c .before .before .before .before .before .before .before .args .q) (c .before .before .before .before .before .before .before .args .least) (c .before .before .before .before .before .before .before .args .most) (c .before .before .before .before .loop .i) (c .before .before .before .before .before .items-of .result) _ (c .before .before .before .before .loop .inv .1) (omega arith) (omega (arith, c .before .before .item .ensures))
 
--- src/lib.rt:90:9
 add-i : tie.Need-add-i Inv-loop μ-loop
 add-i c = search needs
 
--- src/lib.rt:82:5
 loop-less : tie.Need-loop-less Inv-loop μ-loop
 loop-less c = search needs
 
--- src/lib.rt:82:5
 loop-again : tie.Need-loop-again Inv-loop μ-loop
 loop-again c = (omega arith, within-more (c .before .before .before .before .before .before .before .args .k) (c .before .before .before .before .before .before .before .args .node .now) (c .before .before .before .before .before .before .before .args .q) (c .before .before .before .before .before .before .before .args .least) (c .before .before .before .before .before .before .before .args .most) (c .before .before .before .before .loop .i) (c .before .before .before .before .before .items-of .result) _ (c .before .before .before .before .loop .inv .1) (omega arith) (omega (arith, c .before .before .item .ensures)) (omega (arith, c .before .before .item .ensures)))
 
--- src/lib.rt:76:1
 returns-3 : tie.Need-returns-3 Inv-loop μ-loop
 returns-3 c = within-none (c .before .before .before .before .args .k) (c .before .before .before .before .args .node .now) (c .before .before .before .before .args .q) (c .before .before .before .before .args .least) (c .before .before .before .before .args .most) (c .before .loop .i) (c .before .before .items-of .result) _ (c .before .loop .inv .1) (omega arith)
 

@@ -1,3 +1,4 @@
+-- `shapes::is_in_shape` meets its contract. Assumes nothing.
 use Prim.Native.Nat.{_+_, _-_, _≤_}
 use Rattle.shapes.proofs.Steps.{clear, shape-start, shape-items, clear-items, clear-more, shape-slot, shape-yes}
 use Rattle.words.specs.Words.{every}
@@ -7,9 +8,6 @@ use mathlib.Core.Path.{_≡_}
 use borrow.Author.Needs.{needs}
 use Rattle.shapes.proofs.is_in_shape.Statement.{statement}
 use Rattle.shapes.proofs.is_in_shape.Tie as tie
-use Rattle.shapes.proofs.is_in_shape.Reads as reads
-use Rattle.shapes.proofs.is_in_shape.Lts as lts
-use Rattle.queues.proofs.slot_at.Reads as slot-at-reads
 
 abbrev Inv-loop : tie.InvT-loop
 Inv-loop node k q first count i₀ i = (count ≤ i) × (i ≤ k .slots) × (every i (clear k node q) ≡ true)
@@ -17,75 +15,57 @@ Inv-loop node k q first count i₀ i = (count ≤ i) × (i ≤ k .slots) × (eve
 abbrev μ-loop : tie.MeasureT-loop
 μ-loop node k q first count i₀ i = k .slots - i
 
--- src/lib.rt:56:17
 mul-first : tie.Need-mul-first Inv-loop μ-loop
 mul-first c = search needs
 
--- src/lib.rt:56:17
 shared-slice-read-first : tie.Need-shared-slice-read-first Inv-loop μ-loop
 shared-slice-read-first c = search needs
 
--- src/lib.rt:56:17
 cast-first : tie.Need-cast-first Inv-loop μ-loop
 cast-first c = omega (arith, c .shared-slice-known2 .given (c .before .before .args .q))
 
--- src/lib.rt:57:22
 add-count : tie.Need-add-count Inv-loop μ-loop
 add-count c = search needs
 
--- src/lib.rt:57:17
 mul-count : tie.Need-mul-count Inv-loop μ-loop
 mul-count c = search needs
 
--- src/lib.rt:57:17
 shared-slice-read-count : tie.Need-shared-slice-read-count Inv-loop μ-loop
 shared-slice-read-count c = search needs
 
--- src/lib.rt:57:17
 cast-count : tie.Need-cast-count Inv-loop μ-loop
 cast-count c = omega (arith, c .shared-slice-known3 .given (c .before .before .before .args .q + 1))
 
--- src/lib.rt:59:9
 returns : tie.Need-returns Inv-loop μ-loop
 returns c = shape-start (c .before .before .before .before .before .args .k) (c .before .before .before .before .before .args .node .now) (c .before .before .before .before .before .args .q) (c .if1 .taken)
 
--- src/lib.rt:62:9
 returns-2 : tie.Need-returns-2 Inv-loop μ-loop
 returns-2 c = shape-items (c .before .before .before .before .before .before .before .args .k) (c .before .before .before .before .before .before .before .args .node .now) (c .before .before .before .before .before .before .before .args .q) (c .if2 .taken)
 
--- src/lib.rt:65:5
 loop-holds : tie.Need-loop-holds Inv-loop μ-loop
 loop-holds c = (omega arith, omega arith, clear-items (c .before .before .before .before .before .before .before .args .k) (c .before .before .before .before .before .before .before .args .node .now) (c .before .before .before .before .before .before .before .args .q))
 
--- src/lib.rt:66:13
 slot-at-requires : tie.Need-slot-at-requires Inv-loop μ-loop
 slot-at-requires c κs = search needs
 
--- src/lib.rt:67:12
 mul-if4 : tie.Need-mul-if4 Inv-loop μ-loop
 mul-if4 c = search needs
 
--- src/lib.rt:67:12
 shared-slice-read-if4 : tie.Need-shared-slice-read-if4 Inv-loop μ-loop
 shared-slice-read-if4 c = search needs
 
--- src/lib.rt:68:13
 returns-3 : tie.Need-returns-3 Inv-loop μ-loop
 returns-3 c = shape-slot (c .before .before .before .before .before .before .before .before .before .before .before .before .before .args .k) (c .before .before .before .before .before .before .before .before .before .before .before .before .before .args .node .now) (c .before .before .before .before .before .before .before .before .before .before .before .before .before .args .q) (c .before .before .before .before .before .loop .i) (omega arith) (omega arith) (λ z. c .if4 .taken (rw (c .before .before .slot-at .ensures .is) z))
 
--- src/lib.rt:70:9
 add-i : tie.Need-add-i Inv-loop μ-loop
 add-i c = search needs
 
--- src/lib.rt:65:5
 loop-less : tie.Need-loop-less Inv-loop μ-loop
 loop-less c = search needs
 
--- src/lib.rt:65:5
 loop-again : tie.Need-loop-again Inv-loop μ-loop
 loop-again c = (omega arith, omega arith, clear-more (c .before .before .before .before .before .before .before .before .before .before .before .before .before .args .k) (c .before .before .before .before .before .before .before .before .before .before .before .before .before .args .node .now) (c .before .before .before .before .before .before .before .before .before .before .before .before .before .args .q) (c .before .before .before .before .before .loop .i) (c .before .before .before .before .before .loop .inv .2) (rw (c .before .before .slot-at .ensures .is) at (c .if4 .left)))
 
--- src/lib.rt:52:1
 returns-4 : tie.Need-returns-4 Inv-loop μ-loop
 returns-4 c = let e : c .before .before .loop .i ≡ c .before .before .before .before .before .before .before .before .before .before .args .k .slots = omega arith in shape-yes (c .before .before .before .before .before .before .before .before .before .before .args .k) (c .before .before .before .before .before .before .before .before .before .before .args .node .now) (c .before .before .before .before .before .before .before .before .before .before .args .q) (omega arith) (omega arith) (rw e at (c .before .before .loop .inv .2))
 

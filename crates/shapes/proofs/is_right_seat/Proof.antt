@@ -1,3 +1,4 @@
+-- `shapes::is_right_seat` meets its contract. Assumes nothing.
 use lib.ListN.{getD}
 use Prim.Native.Nat.{ℕ, _+_}
 use Rattle.sound.proofs.Given.{shape-queue}
@@ -9,79 +10,55 @@ use mathlib.Core.Path.{sym, ap, _∙_}
 use borrow.Author.Needs.{needs}
 use Rattle.shapes.proofs.is_right_seat.Statement.{statement}
 use Rattle.shapes.proofs.is_right_seat.Tie as tie
-use Rattle.shapes.proofs.is_right_seat.Reads as reads
-use Rattle.shapes.proofs.is_right_seat.Lts as lts
-use Rattle.queues.proofs.item.Reads as item-reads
-use Rattle.queues.proofs.items_of.Reads as items-of-reads
-use Rattle.shapes.proofs.are_within.Reads as are-within-reads
-use Rattle.shapes.proofs.is_in_shape.Reads as is-in-shape-reads
-use Rattle.taking.proofs.gap_flag.Reads as gap-flag-reads
 
--- src/lib.rt:115:9
 is-in-shape-requires : tie.Need-is-in-shape-requires
 is-in-shape-requires c κs = search needs
 
--- src/lib.rt:116:9
 returns : tie.Need-returns
 returns c = seat-shape (c .before .before .before .args .k) (c .before .before .before .args .node .now) (c .before .before .before .args .q) (c .before .before .before .args .m) (c .before .before .before .args .task) (sym (c .before .is-in-shape .ensures) ∙ not-true _ (c .if1 .taken))
 
--- src/lib.rt:118:8
 items-of-requires : tie.Need-items-of-requires
 items-of-requires c κs = shape-queue (c .before .before .before .args .k) (c .before .before .before .args .node .now) (c .before .before .before .args .q) (c .before .before .before .pre .0) (sym (c .before .is-in-shape .ensures) ∙ not-false _ (c .if1 .left))
 
--- src/lib.rt:119:21
 add-result : tie.Need-add-result
 add-result c = search needs
 
--- src/lib.rt:119:16
 mul-result : tie.Need-mul-result
 mul-result c = search needs
 
--- src/lib.rt:119:16
 shared-slice-read-result : tie.Need-shared-slice-read-result
 shared-slice-read-result c = search needs
 
--- src/lib.rt:119:9
 returns-2 : tie.Need-returns-2
 returns-2 c = seat-empty (c .before .before .before .before .before .before .args .k) (c .before .before .before .before .before .before .args .node .now) (c .before .before .before .before .before .before .args .q) (c .before .before .before .before .before .before .args .m) (c .before .before .before .before .before .before .args .task) (sym (c .before .before .before .before .is-in-shape .ensures) ∙ not-false _ (c .before .before .before .if1 .left)) (sym (c .before .before .items-of .ensures) ∙ c .before .if2 .taken)
 
--- src/lib.rt:122:9
 returns-3 : tie.Need-returns-3
 returns-3 c = seat-unbound (c .before .before .before .before .before .before .args .k) (c .before .before .before .before .before .before .args .node .now) (c .before .before .before .before .before .before .args .q) (c .before .before .before .before .before .before .args .m) (c .before .before .before .before .before .before .args .task) (sym (c .before .before .before .before .is-in-shape .ensures) ∙ not-false _ (c .before .before .before .if1 .left)) (λ z. c .before .if2 .left (c .before .before .items-of .ensures ∙ z)) (c .if3 .taken)
 
--- src/lib.rt:124:8
 item-requires : tie.Need-item-requires
 item-requires c κs = (shape-queue (c .before .before .before .before .before .before .args .k) (c .before .before .before .before .before .before .args .node .now) (c .before .before .before .before .before .before .args .q) (c .before .before .before .before .before .before .pre .0) (sym (c .before .before .before .before .is-in-shape .ensures) ∙ not-false _ (c .before .before .before .if1 .left)), omega arith)
 
--- src/lib.rt:125:9
 returns-4 : tie.Need-returns-4
 returns-4 c = seat-gap (c .before .before .before .before .before .before .before .before .args .k) (c .before .before .before .before .before .before .before .before .args .node .now) (c .before .before .before .before .before .before .before .before .args .q) (c .before .before .before .before .before .before .before .before .args .m) (c .before .before .before .before .before .before .before .before .args .task) (sym (c .before .before .before .before .before .before .is-in-shape .ensures) ∙ not-false _ (c .before .before .before .before .before .if1 .left)) (λ z. c .before .before .before .if2 .left (c .before .before .before .before .items-of .ensures ∙ z)) (sym (c .before .item .ensures) ∙ c .if4 .taken)
 
--- src/lib.rt:127:9
 are-within-requires : tie.Need-are-within-requires
 are-within-requires c κs = shape-queue (c .before .before .before .before .before .before .before .before .args .k) (c .before .before .before .before .before .before .before .before .args .node .now) (c .before .before .before .before .before .before .before .before .args .q) (c .before .before .before .before .before .before .before .before .pre .0) (sym (c .before .before .before .before .before .before .is-in-shape .ensures) ∙ not-false _ (c .before .before .before .before .before .if1 .left))
 
--- src/lib.rt:128:9
 returns-5 : tie.Need-returns-5
 returns-5 c = seat-high (c .before .before .before .before .before .before .before .before .before .before .args .k) (c .before .before .before .before .before .before .before .before .before .before .args .node .now) (c .before .before .before .before .before .before .before .before .before .before .args .q) (c .before .before .before .before .before .before .before .before .before .before .args .m) (c .before .before .before .before .before .before .before .before .before .before .args .task) (sym (c .before .before .before .before .before .before .before .before .is-in-shape .ensures) ∙ not-false _ (c .before .before .before .before .before .before .before .if1 .left)) (λ z. c .before .before .before .before .before .if2 .left (c .before .before .before .before .before .before .items-of .ensures ∙ z)) (sym (c .before .are-within .ensures) ∙ not-true _ (c .if5 .taken))
 
--- src/lib.rt:130:10
 add-result-2 : tie.Need-add-result-2
 add-result-2 c = search needs
 
--- src/lib.rt:130:5
 mul-result-2 : tie.Need-mul-result-2
 mul-result-2 c = search needs
 
--- src/lib.rt:130:5
 shared-slice-read-result-2 : tie.Need-shared-slice-read-result-2
 shared-slice-read-result-2 c = search needs
 
--- src/lib.rt:130:20
 gap-flag-requires : tie.Need-gap-flag-requires
 gap-flag-requires c κs = shape-queue (c .before .before .before .before .before .before .before .before .before .before .before .args .k) (c .before .before .before .before .before .before .before .before .before .before .before .args .node .now) (c .before .before .before .before .before .before .before .before .before .before .before .args .q) (c .before .before .before .before .before .before .before .before .before .before .before .pre .0) (sym (c .before .before .before .before .before .before .before .before .before .is-in-shape .ensures) ∙ not-false _ (c .before .before .before .before .before .before .before .before .if1 .left))
 
--- src/lib.rt:110:1
 returns-6 : tie.Need-returns-6
 returns-6 c = seat-flag (c .before .before .before .before .before .before .before .before .before .before .before .before .args .k) (c .before .before .before .before .before .before .before .before .before .before .before .before .args .node .now) (c .before .before .before .before .before .before .before .before .before .before .before .before .args .q) (c .before .before .before .before .before .before .before .before .before .before .before .before .args .m) (c .before .before .before .before .before .before .before .before .before .before .before .before .args .task) (sym (c .before .before .before .before .before .before .before .before .before .before .is-in-shape .ensures) ∙ not-false _ (c .before .before .before .before .before .before .before .before .before .if1 .left)) (λ z. c .before .before .before .before .before .before .before .if2 .left (c .before .before .before .before .before .before .before .before .items-of .ensures ∙ z)) (c .before .before .before .before .before .before .if3 .left) (λ z. c .before .before .before .before .if4 .left (c .before .before .before .before .before .item .ensures ∙ z)) (sym (c .before .before .before .are-within .ensures) ∙ not-false _ (c .before .before .if5 .left)) _ (ap (λ (n : ℕ). eqb (getD (c .before .before .before .before .before .before .before .before .before .before .before .before .args .node .now) (c .before .before .before .before .before .before .before .before .before .before .before .before .args .q + 2) 0) n) (c .gap-flag .ensures))
 

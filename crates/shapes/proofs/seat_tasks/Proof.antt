@@ -1,3 +1,4 @@
+-- `shapes::seat_tasks` meets its contract. Assumes nothing.
 use mathlib.Core.Path.{subst, sym}
 use Rattle.shapes.specs.Seats.{putOn}
 use Rattle.shapes.proofs.Bound.{SeatsTo, seats-none, seats-more, seats-all}
@@ -6,9 +7,6 @@ use Prim.Native.Nat.{_≤_, _-_}
 use borrow.Author.Needs.{needs}
 use Rattle.shapes.proofs.seat_tasks.Statement.{statement}
 use Rattle.shapes.proofs.seat_tasks.Tie as tie
-use Rattle.shapes.proofs.seat_tasks.Reads as reads
-use Rattle.shapes.proofs.seat_tasks.Lts as lts
-use Rattle.shapes.proofs.put_on.Reads as put-on-reads
 
 abbrev Inv-loop : tie.InvT-loop
 Inv-loop seats₀ table id₀ seats id = (id ≤ 256) × SeatsTo table id seats
@@ -16,31 +14,24 @@ Inv-loop seats₀ table id₀ seats id = (id ≤ 256) × SeatsTo table id seats
 abbrev μ-loop : tie.MeasureT-loop
 μ-loop seats₀ table id₀ seats id = 256 - id
 
--- src/lib.rt:45:5
 loop-holds : tie.Need-loop-holds Inv-loop μ-loop
 loop-holds c = (omega arith, seats-none (c .before .before .args .table .now) (c .before .before .args .seats .now) (c .before .before .pre .0))
 
--- src/lib.rt:46:9
 put-on-requires : tie.Need-put-on-requires Inv-loop μ-loop
 put-on-requires c κs = (c .before .before .loop .inv .1 .long, c .before .before .before .before .before .pre .1)
 
--- src/lib.rt:47:9
 add-id : tie.Need-add-id Inv-loop μ-loop
 add-id c = search needs
 
--- src/lib.rt:45:5
 loop-less : tie.Need-loop-less Inv-loop μ-loop
 loop-less c = search needs
 
--- src/lib.rt:45:5
 loop-again : tie.Need-loop-again Inv-loop μ-loop
 loop-again c = (omega arith, rw (c .before .before .put-on .ensures) (seats-more (c .before .before .before .before .before .before .before .before .args .table .now) (c .before .before .before .before .before .loop .id) (c .before .before .before .before .before .loop .seats) (c .before .before .before .before .before .before .before .before .pre .1) (c .before .before .before .before .before .loop .inv .1)))
 
--- src/lib.rt:39:1
 same-length : tie.Need-same-length Inv-loop μ-loop
 same-length c = search needs
 
--- src/lib.rt:39:1
 returns : tie.Need-returns Inv-loop μ-loop
 returns c = seats-all (c .before .before .before .before .args .table .now) (c .before .loop .id) (c .before .loop .seats) (omega arith) (c .before .loop .inv .1)
 

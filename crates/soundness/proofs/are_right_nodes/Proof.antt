@@ -1,3 +1,4 @@
+-- `soundness::are_right_nodes` meets its contract. Assumes nothing.
 use Rattle.soundness.specs.Parts.{nodeRight}
 use Rattle.sound.proofs.Tests.{every-none, turn-no, turn-more, turn-all}
 use Rattle.words.specs.Words.{every}
@@ -9,9 +10,6 @@ use mathlib.Core.Path.{_≡_, sym, _∙_}
 use borrow.Author.Needs.{needs}
 use Rattle.soundness.proofs.are_right_nodes.Statement.{statement}
 use Rattle.soundness.proofs.are_right_nodes.Tie as tie
-use Rattle.soundness.proofs.are_right_nodes.Reads as reads
-use Rattle.soundness.proofs.are_right_nodes.Lts as lts
-use Rattle.places.proofs.is_right_node.Reads as is-right-node-reads
 
 abbrev Inv-loop : tie.InvT-loop
 Inv-loop memory s seats i₀ i = (i ≤ 6) × (every i (nodeRight s memory) ≡ true)
@@ -19,33 +17,26 @@ Inv-loop memory s seats i₀ i = (i ≤ 6) × (every i (nodeRight s memory) ≡ 
 abbrev μ-loop : tie.MeasureT-loop
 μ-loop memory s seats i₀ i = 6 - i
 
--- src/lib.rt:208:5
 loop-holds : tie.Need-loop-holds Inv-loop μ-loop
 loop-holds c = (omega arith, every-none _)
 
--- src/lib.rt:209:13
 is-right-node-requires : tie.Need-is-right-node-requires Inv-loop μ-loop
 is-right-node-requires c κs = search needs
 
--- src/lib.rt:210:13
 returns : tie.Need-returns Inv-loop μ-loop
 unfolding nodeRight
 returns c = turn-no (nodeRight (c .before .before .before .before .before .before .args .s) (c .before .before .before .before .before .before .args .memory .now)) 6 (c .before .before .before .loop .i) (omega arith) _ (c .before .is-right-node .ensures) (not-true _ (c .if1 .taken))
 
--- src/lib.rt:212:9
 add-i : tie.Need-add-i Inv-loop μ-loop
 add-i c = search needs
 
--- src/lib.rt:208:5
 loop-less : tie.Need-loop-less Inv-loop μ-loop
 loop-less c = search needs
 
--- src/lib.rt:208:5
 loop-again : tie.Need-loop-again Inv-loop μ-loop
 unfolding nodeRight
 loop-again c = (omega arith, turn-more (nodeRight (c .before .before .before .before .before .before .args .s) (c .before .before .before .before .before .before .args .memory .now)) 6 (c .before .before .before .loop .i) (c .before .before .before .loop .inv .1) _ (c .before .is-right-node .ensures) (not-false _ (c .if1 .left)))
 
--- src/lib.rt:202:1
 returns-2 : tie.Need-returns-2 Inv-loop μ-loop
 returns-2 c = turn-all (nodeRight (c .before .before .before .before .args .s) (c .before .before .before .before .args .memory .now)) 6 (c .before .loop .i) (omega arith) (c .before .loop .inv .1)
 

@@ -1,3 +1,4 @@
+-- `soundness::are_right_queues` meets its contract. Assumes nothing.
 use Rattle.shapes.proofs.Rule.{stretch-queues}
 use Rattle.shapes.specs.Shape.{rightStretch}
 use Rattle.places.proofs.Begun.{node-lent}
@@ -17,11 +18,6 @@ use mathlib.Core.Path.{_≡_, sym, _∙_}
 use borrow.Author.Needs.{needs}
 use Rattle.soundness.proofs.are_right_queues.Statement.{statement}
 use Rattle.soundness.proofs.are_right_queues.Tie as tie
-use Rattle.soundness.proofs.are_right_queues.Reads as reads
-use Rattle.soundness.proofs.are_right_queues.Lts as lts
-use Rattle.layout.proofs.node_at.Reads as node-at-reads
-use Rattle.layout.proofs.node_size.Reads as node-size-reads
-use Rattle.shapes.proofs.is_right_stretch.Reads as is-right-stretch-reads
 
 abbrev Inv-loop : tie.InvT-loop
 Inv-loop memory s seats size i₀ i = (i ≤ 6) × (every i (rightQueues s memory) ≡ true)
@@ -29,59 +25,45 @@ Inv-loop memory s seats size i₀ i = (i ≤ 6) × (every i (rightQueues s memor
 abbrev μ-loop : tie.MeasureT-loop
 μ-loop memory s seats size i₀ i = 6 - i
 
--- src/lib.rt:188:9
 node-size-requires : tie.Need-node-size-requires Inv-loop μ-loop
 node-size-requires c κs = search needs
 
--- src/lib.rt:190:5
 loop-holds : tie.Need-loop-holds Inv-loop μ-loop
 loop-holds c = (omega arith, every-none _)
 
--- src/lib.rt:191:13
 node-at-requires : tie.Need-node-at-requires Inv-loop μ-loop
 node-at-requires c κs = search needs
 
--- src/lib.rt:192:17
 add-e : tie.Need-add-e Inv-loop μ-loop
 add-e c = search needs
 
--- src/lib.rt:193:38
 mul-is-right-stretch : tie.Need-mul-is-right-stretch Inv-loop μ-loop
 mul-is-right-stretch c = search needs
 
--- src/lib.rt:193:38
 sub-is-right-stretch : tie.Need-sub-is-right-stretch Inv-loop μ-loop
 sub-is-right-stretch c = search needs
 
--- src/lib.rt:193:38
 part-is-right-stretch-start : tie.Need-part-is-right-stretch-start Inv-loop μ-loop
 part-is-right-stretch-start c = search needs
 
--- src/lib.rt:193:38
 part-is-right-stretch-end : tie.Need-part-is-right-stretch-end Inv-loop μ-loop
 part-is-right-stretch-end c = search needs
 
--- src/lib.rt:193:13
 is-right-stretch-requires : tie.Need-is-right-stretch-requires Inv-loop μ-loop
 is-right-stretch-requires c κs = (rw (node-lent (c .before .before .before .before .before .before .before .args .s) (c .before .before .before .before .before .before .before .args .memory .now) (c .before .before .before .loop .i) _ _ (c .before .node-at .ensures .is) (c .before .before .before .before .node-size .ensures .is)) (node-stretch (c .before .before .before .before .before .before .before .args .s) (c .before .before .before .before .before .before .before .args .memory .now) (c .before .before .before .before .before .before .before .pre .0) (c .before .before .before .loop .i) (omega arith)), (c .before .before .before .before .before .before .before .pre .1 .long, omega arith))
 
--- src/lib.rt:194:13
 returns : tie.Need-returns Inv-loop μ-loop
 returns c = turn-no (rightQueues (c .before .before .before .before .before .before .before .before .before .args .s) (c .before .before .before .before .before .before .before .before .before .args .memory .now)) 6 (c .before .before .before .before .before .loop .i) (omega arith) _ (c .before .is-right-stretch .ensures ∙ ap (λ (l : List ℕ). rightStretch (c .before .before .before .before .before .before .before .before .before .args .s) l (c .before .before .before .before .before .loop .i) (c .before .before .before .before .before .before .before .before .before .args .seats .now)) (node-lent (c .before .before .before .before .before .before .before .before .before .args .s) (c .before .before .before .before .before .before .before .before .before .args .memory .now) (c .before .before .before .before .before .loop .i) _ _ (c .before .before .before .node-at .ensures .is) (c .before .before .before .before .before .before .node-size .ensures .is)) ∙ stretch-queues (c .before .before .before .before .before .before .before .before .before .args .s) (c .before .before .before .before .before .before .before .before .before .args .memory .now) (c .before .before .before .before .before .before .before .before .before .args .seats .now) (c .before .before .before .before .before .loop .i) (omega arith) (c .before .before .before .before .before .before .before .before .before .pre .1)) (not-true _ (c .if1 .taken))
 
--- src/lib.rt:196:9
 add-i : tie.Need-add-i Inv-loop μ-loop
 add-i c = search needs
 
--- src/lib.rt:190:5
 loop-less : tie.Need-loop-less Inv-loop μ-loop
 loop-less c = search needs
 
--- src/lib.rt:190:5
 loop-again : tie.Need-loop-again Inv-loop μ-loop
 loop-again c = (omega arith, turn-more (rightQueues (c .before .before .before .before .before .before .before .before .before .args .s) (c .before .before .before .before .before .before .before .before .before .args .memory .now)) 6 (c .before .before .before .before .before .loop .i) (c .before .before .before .before .before .loop .inv .1) _ (c .before .is-right-stretch .ensures ∙ ap (λ (l : List ℕ). rightStretch (c .before .before .before .before .before .before .before .before .before .args .s) l (c .before .before .before .before .before .loop .i) (c .before .before .before .before .before .before .before .before .before .args .seats .now)) (node-lent (c .before .before .before .before .before .before .before .before .before .args .s) (c .before .before .before .before .before .before .before .before .before .args .memory .now) (c .before .before .before .before .before .loop .i) _ _ (c .before .before .before .node-at .ensures .is) (c .before .before .before .before .before .before .node-size .ensures .is)) ∙ stretch-queues (c .before .before .before .before .before .before .before .before .before .args .s) (c .before .before .before .before .before .before .before .before .before .args .memory .now) (c .before .before .before .before .before .before .before .before .before .args .seats .now) (c .before .before .before .before .before .loop .i) (omega arith) (c .before .before .before .before .before .before .before .before .before .pre .1)) (not-false _ (c .if1 .left)))
 
--- src/lib.rt:183:1
 returns-2 : tie.Need-returns-2 Inv-loop μ-loop
 returns-2 c = turn-all (rightQueues (c .before .before .before .before .before .args .s) (c .before .before .before .before .before .args .memory .now)) 6 (c .before .loop .i) (omega arith) (c .before .loop .inv .1)
 

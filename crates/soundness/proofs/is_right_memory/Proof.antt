@@ -1,3 +1,4 @@
+-- `soundness::is_right_memory` meets its contract. Assumes nothing.
 use Rattle.sound.proofs.Tests.{no-first, yes-first}
 use Rattle.layout.proofs.Fits.{nodes-fit}
 use borrow.Author.Tests.{not-true, not-false}
@@ -6,61 +7,43 @@ use mathlib.Core.Path.{_≡_, refl, sym, _∙_}
 use borrow.Author.Needs.{needs}
 use Rattle.soundness.proofs.is_right_memory.Statement.{statement}
 use Rattle.soundness.proofs.is_right_memory.Tie as tie
-use Rattle.soundness.proofs.is_right_memory.Reads as reads
-use Rattle.soundness.proofs.is_right_memory.Lts as lts
-use Rattle.shapes.proofs.seat_tasks.Reads as seat-tasks-reads
-use Rattle.soundness.proofs.is_right_seated.Reads as is-right-seated-reads
-use Rattle.tasks.proofs.is_right.Reads as is-right-reads
 
--- src/lib.rt:241:25
 sub-is-right : tie.Need-sub-is-right
 sub-is-right c = search needs
 
--- src/lib.rt:241:25
 part-is-right-start : tie.Need-part-is-right-start
 part-is-right-start c = search needs
 
--- src/lib.rt:241:25
 part-is-right-end : tie.Need-part-is-right-end
 part-is-right-end c = omega (arith, c .before .pre .long, nodes-fit (c .before .args .s))
 
--- src/lib.rt:241:9
 is-right-requires : tie.Need-is-right-requires
 is-right-requires c κs = search needs
 
--- src/lib.rt:242:9
 returns : tie.Need-returns
 returns c = no-first _ _ (sym (c .before .is-right .ensures) ∙ not-true _ (c .if1 .taken))
 
--- src/lib.rt:245:24
 slice-aggregate-seat-tasks : tie.Need-slice-aggregate-seat-tasks
 slice-aggregate-seat-tasks c = search needs
 
--- src/lib.rt:245:36
 sub-seat-tasks : tie.Need-sub-seat-tasks
 sub-seat-tasks c = search needs
 
--- src/lib.rt:245:36
 part-seat-tasks-start : tie.Need-part-seat-tasks-start
 part-seat-tasks-start c = search needs
 
--- src/lib.rt:245:36
 part-seat-tasks-end : tie.Need-part-seat-tasks-end
 part-seat-tasks-end c = omega (arith, c .before .before .before .before .before .pre .long, nodes-fit (c .before .before .before .before .before .args .s))
 
--- src/lib.rt:245:5
 seat-tasks-requires : tie.Need-seat-tasks-requires
 seat-tasks-requires c κs = (refl, sym (c .before .before .before .is-right .ensures) ∙ not-false _ (c .before .before .if1 .left))
 
--- src/lib.rt:246:32
 slice-aggregate-is-right-seated : tie.Need-slice-aggregate-is-right-seated
 slice-aggregate-is-right-seated c = search needs
 
--- src/lib.rt:246:5
 is-right-seated-requires : tie.Need-is-right-seated-requires
 is-right-seated-requires c κs = (c .before .before .before .before .before .before .before .before .before .pre, (sym (c .before .before .before .before .before .before .is-right .ensures) ∙ not-false _ (c .before .before .before .before .before .if1 .left), c .before .before .seat-tasks .ensures))
 
--- src/lib.rt:237:1
 returns-2 : tie.Need-returns-2
 returns-2 c = yes-first _ _ _ (sym (c .before .before .before .before .before .before .before .is-right .ensures) ∙ not-false _ (c .before .before .before .before .before .before .if1 .left)) (c .is-right-seated .ensures)
 

@@ -1,3 +1,4 @@
+-- `soundness::is_sound` meets its contract. Assumes nothing.
 use Rattle.soundness.proofs.Rules.{made-range}
 use Rattle.soundness.proofs.Rules.{sound-short, sound-refused, sound-range, sound-size, sound-turn, sound-rest}
 use native.Mathlib.Omega.{arith}
@@ -5,73 +6,52 @@ use mathlib.Core.Path.{_≡_, refl, sym, _∙_}
 use borrow.Author.Needs.{needs}
 use Rattle.soundness.proofs.is_sound.Statement.{statement}
 use Rattle.soundness.proofs.is_sound.Tie as tie
-use Rattle.soundness.proofs.is_sound.Reads as reads
-use Rattle.soundness.proofs.is_sound.Lts as lts
-use Rattle.layout.proofs.memory_size.Reads as memory-size-reads
-use Rattle.settings.proofs.Settings.new.Reads as new-reads
-use Rattle.soundness.proofs.is_right_memory.Reads as is-right-memory-reads
 
--- src/lib.rt:254:9
 returns : tie.Need-returns
 returns c = sound-short (c .before .before .args .memory .now) (c .if1 .taken)
 
--- src/lib.rt:256:30
 shared-slice-read-new : tie.Need-shared-slice-read-new
 shared-slice-read-new c = search needs
 
--- src/lib.rt:256:41
 shared-slice-read-new-2 : tie.Need-shared-slice-read-new-2
 shared-slice-read-new-2 c = search needs
 
--- src/lib.rt:256:52
 shared-slice-read-new-3 : tie.Need-shared-slice-read-new-3
 shared-slice-read-new-3 c = search needs
 
--- src/lib.rt:256:63
 shared-slice-read-new-4 : tie.Need-shared-slice-read-new-4
 shared-slice-read-new-4 c = search needs
 
--- src/lib.rt:256:74
 shared-slice-read-new-5 : tie.Need-shared-slice-read-new-5
 shared-slice-read-new-5 c = search needs
 
--- src/lib.rt:256:9
 new-requires : tie.Need-new-requires
 new-requires c κs = search needs
 
--- src/lib.rt:257:28
 enum-known-made : tie.Need-enum-known-made
 enum-known-made c = search needs
 
--- src/lib.rt:258:9
 enum-told : tie.Need-enum-told
 enum-told c = search needs
 
--- src/lib.rt:258:9
 returns-2 : tie.Need-returns-2
 returns-2 c = sound-refused (c .before .before .before .before .before .before .before .before .before .before .args .memory .now) (sym (c .before .before .new .ensures) ∙ c .enum-told .given .1)
 
--- src/lib.rt:260:24
 memory-size-requires : tie.Need-memory-size-requires
 memory-size-requires c κs = made-range (c .before .before .before .before .before .before .before .before .before .before .before .args .memory .now) _ (sym (c .before .before .before .new .ensures) ∙ c .before .made .given .1)
 
--- src/lib.rt:261:9
 returns-3 : tie.Need-returns-3
 returns-3 c = sound-size (c .before .before .before .before .before .before .before .before .before .before .before .before .before .args .memory .now) _ (sym (c .before .before .before .before .before .new .ensures) ∙ c .before .before .before .made .given .1) (λ e. c .if2 .taken (e ∙ sym (c .before .memory-size .ensures)))
 
--- src/lib.rt:263:12
 shared-slice-read-if3 : tie.Need-shared-slice-read-if3
 shared-slice-read-if3 c = search needs
 
--- src/lib.rt:264:9
 returns-4 : tie.Need-returns-4
 returns-4 c = sound-turn (c .before .before .before .before .before .before .before .before .before .before .before .before .before .before .before .args .memory .now) _ (sym (c .before .before .before .before .before .before .before .new .ensures) ∙ c .before .before .before .before .before .made .given .1) (c .before .before .if2 .left ∙ c .before .before .before .memory-size .ensures) (c .if3 .taken)
 
--- src/lib.rt:266:5
 is-right-memory-requires : tie.Need-is-right-memory-requires
 is-right-memory-requires c κs = sound-range (c .before .before .before .before .before .before .before .before .before .before .before .before .before .before .before .args .memory .now) _ (sym (c .before .before .before .before .before .before .before .new .ensures) ∙ c .before .before .before .before .before .made .given .1) (c .before .before .if2 .left ∙ c .before .before .before .memory-size .ensures)
 
--- src/lib.rt:250:1
 returns-5 : tie.Need-returns-5
 returns-5 c = sound-rest (c .before .before .before .before .before .before .before .before .before .before .before .before .before .before .before .before .args .memory .now) _ (sym (c .before .before .before .before .before .before .before .before .new .ensures) ∙ c .before .before .before .before .before .before .made .given .1) (c .before .before .before .if2 .left ∙ c .before .before .before .before .memory-size .ensures) (c .before .if3 .left) _ (c .is-right-memory .ensures)
 

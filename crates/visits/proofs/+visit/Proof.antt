@@ -24,56 +24,43 @@ module _ (t : ℕ) where
   abbrev calls : lts.Claims
   calls = (link-of-reads.Asked, link-of-reads.Learnt, and 2 kinds.ps (falls 2 kinds.ps _<_ μ t) own.Pre, own.Post)
 
-  -- src/lib.rt:42:9
   returns : lts.Need-returns calls Pre own.Post
   returns c = visit-end (c .before .before .before .args .s) (c .before .before .before .args .node .now) (c .before .before .before .args .owed) (c .before .before .before .args .b) (c .before .before .before .args .marks .now) (c .if1 .taken)
 
-  -- src/lib.rt:45:9
   returns-2 : lts.Need-returns-2 calls Pre own.Post
   returns-2 c = visit-none (c .before .before .before .before .args .s) (c .before .before .before .before .args .node .now) (c .before .before .before .before .args .owed) (c .before .before .before .before .args .b) (c .before .before .before .before .args .marks .now) _ (c .before .if1 .left) (c .if2 .taken)
 
-  -- src/lib.rt:49:9
   returns-3 : lts.Need-returns-3 calls Pre own.Post
   returns-3 c = visit-above (c .before .before .before .before .before .before .args .s) (c .before .before .before .before .before .before .args .node .now) (c .before .before .before .before .before .before .args .owed) (c .before .before .before .before .before .before .args .b) (c .before .before .before .before .before .before .args .marks .now) (c .before .before .before .if1 .left) (c .before .before .if2 .left) _ (c .if3 .taken)
 
-  -- src/lib.rt:51:8
   mul-if4 : lts.Need-mul-if4 calls Pre own.Post
   mul-if4 c = omega arith
 
-  -- src/lib.rt:51:8
   slice-read-if4 : lts.Need-slice-read-if4 calls Pre own.Post
   slice-read-if4 c = omega arith
 
-  -- src/lib.rt:52:9
   returns-4 : lts.Need-returns-4 calls Pre own.Post
   returns-4 c = visit-marked (c .before .before .before .before .before .before .before .before .args .s) (c .before .before .before .before .before .before .before .before .args .node .now) (c .before .before .before .before .before .before .before .before .args .owed) (c .before .before .before .before .before .before .before .before .args .b) (c .before .before .before .before .before .before .before .before .args .marks .now) (c .before .before .before .before .before .if1 .left) (c .before .before .before .before .if2 .left) _ (c .if4 .taken)
 
-  -- src/lib.rt:54:5
   mul-marks : lts.Need-mul-marks calls Pre own.Post
   mul-marks c = omega arith
 
-  -- src/lib.rt:54:5
   slice-write-marks : lts.Need-slice-write-marks calls Pre own.Post
   slice-write-marks c = omega arith
 
-  -- src/lib.rt:55:9
   link-of-requires : lts.Need-link-of-requires calls Pre own.Post
   link-of-requires c κs =
       record { stretch = c .before .before .before .before .before .before .before .before .pre .1 .0; low = omega arith; high = omega arith }
 
-  -- src/lib.rt:56:33
   sub-visit : lts.Need-sub-visit calls Pre own.Post
   sub-visit c = omega arith
 
-  -- src/lib.rt:56:5
   visit-requires : lts.Need-visit-requires calls Pre own.Post
   visit-requires c κs = (omega arith, (c .before .before .before .before .before .before .before .before .before .before .pre .1 .0, simp length-set (c .before .before .before .before .before .before .before .before .before .before .pre .1 .1)))
 
-  -- src/lib.rt:36:1
   same-length : lts.Need-same-length calls Pre own.Post
   same-length c = c .before .before .visit .kept .1 .1 .0 ∙ simp length-set
 
-  -- src/lib.rt:36:1
   returns-5 : lts.Need-returns-5 calls Pre own.Post
   returns-5 c = visit-step (c .before .before .before .before .before .before .before .before .before .before .before .before .before .args .s) (c .before .before .before .before .before .before .before .before .before .before .before .before .before .args .node .now) (c .before .before .before .before .before .before .before .before .before .before .before .before .before .args .owed) (c .before .before .before .before .before .before .before .before .before .before .before .before .before .args .b) (c .before .before .before .before .before .before .before .before .before .before .before .before .before .args .marks .now) (c .before .before .before .before .before .before .before .before .before .before .if1 .left) (c .before .before .before .before .before .before .before .before .before .if2 .left) (c .before .before .before .before .before .before .before .if3 .left) (c .before .before .before .before .before .if4 .left) _ _ _ (c .before .before .before .before .link-of .ensures) (c .before .before .visit .ensures)
 

@@ -1,50 +1,38 @@
+-- `visits::is_at_place` meets its contract. Assumes nothing.
 use Rattle.visits.proofs.Judge.{at-hand, at-send, at-ack, at-task}
 use native.Mathlib.Omega.{arith}
 use mathlib.Core.Path.{sym, _∙_}
 use borrow.Author.Needs.{needs}
 use Rattle.visits.proofs.is_at_place.Statement.{statement}
 use Rattle.visits.proofs.is_at_place.Tie as tie
-use Rattle.visits.proofs.is_at_place.Reads as reads
-use Rattle.visits.proofs.is_at_place.Lts as lts
-use Rattle.visits.proofs.is_from_to.Reads as is-from-to-reads
 
--- src/lib.rt:107:9
 returns : tie.Need-returns
 returns c = at-hand (c .before .before .args .seats .now) (c .before .before .args .i) (c .before .before .args .p) (c .before .before .args .from) (c .before .before .args .task) (c .before .before .args .to) (c .if1 .taken)
 
--- src/lib.rt:110:9
 is-from-to-requires : tie.Need-is-from-to-requires
 is-from-to-requires c κs = search needs
 
--- src/lib.rt:110:9
 returns-2 : tie.Need-returns-2
 returns-2 c = c .is-from-to .ensures ∙ at-send (c .before .before .before .before .args .seats .now) (c .before .before .before .before .args .i) (c .before .before .before .before .args .p) (c .before .before .before .before .args .from) (c .before .before .before .before .args .task) (c .before .before .before .before .args .to) (omega arith) (omega arith)
 
--- src/lib.rt:113:9
 is-from-to-requires-2 : tie.Need-is-from-to-requires-2
 is-from-to-requires-2 c κs = search needs
 
--- src/lib.rt:113:9
 returns-3 : tie.Need-returns-3
 returns-3 c = c .is-from-to2 .ensures ∙ at-ack (c .before .before .before .before .before .args .seats .now) (c .before .before .before .before .before .args .i) (c .before .before .before .before .before .args .p) (c .before .before .before .before .before .args .from) (c .before .before .before .before .before .args .task) (c .before .before .before .before .before .args .to) (omega arith) (omega arith)
 
--- src/lib.rt:115:19
 mul-result : tie.Need-mul-result
 mul-result c = search needs
 
--- src/lib.rt:115:19
 add-result : tie.Need-add-result
 add-result c = search needs
 
--- src/lib.rt:115:13
 mul-result-2 : tie.Need-mul-result-2
 mul-result-2 c = search needs
 
--- src/lib.rt:115:13
 shared-slice-read-result : tie.Need-shared-slice-read-result
 shared-slice-read-result c = search needs
 
--- src/lib.rt:100:1
 returns-4 : tie.Need-returns-4
 returns-4 c = at-task (c .before .before .before .before .before .args .seats .now) (c .before .before .before .before .before .args .i) (c .before .before .before .before .before .args .p) (c .before .before .before .before .before .args .from) (c .before .before .before .before .before .args .task) (c .before .before .before .before .before .args .to) (omega arith) (omega arith)
 

@@ -1,3 +1,4 @@
+-- `visits::is_from_to` meets its contract. Assumes nothing.
 use Rattle.visits.specs.Letters.{isFromTo}
 use mathlib.Core.Path.{refl}
 use Rattle.sound.proofs.Tests.{no-first, yes-first}
@@ -6,15 +7,11 @@ use mathlib.Core.Path.{sym, _∙_}
 use borrow.Author.Needs.{needs}
 use Rattle.visits.proofs.is_from_to.Statement.{statement}
 use Rattle.visits.proofs.is_from_to.Tie as tie
-use Rattle.visits.proofs.is_from_to.Reads as reads
-use Rattle.visits.proofs.is_from_to.Lts as lts
 
--- src/lib.rt:94:9
 returns : tie.Need-returns
 unfolding isFromTo
 returns c = no-first _ _ (ne-eqb _ _ (c .if1 .taken))
 
--- src/lib.rt:90:1
 returns-2 : tie.Need-returns-2
 unfolding isFromTo
 returns-2 c = yes-first _ _ _ (eq-eqb _ _ (c .if1 .left)) refl

@@ -1,3 +1,4 @@
+-- `visits::is_right_header` meets its contract. Assumes nothing.
 use Rattle.visits.proofs.Judge.{header-first, header-second, header-yes}
 use Rattle.sound.specs.Letters.{wordsFrom}
 use Rattle.visits.proofs.Read.{head-word, word-lies}
@@ -8,51 +9,36 @@ use mathlib.Core.Path.{_≡_, sym, ap, ap₂, _∙_}
 use borrow.Author.Needs.{needs}
 use Rattle.visits.proofs.is_right_header.Statement.{statement}
 use Rattle.visits.proofs.is_right_header.Tie as tie
-use Rattle.visits.proofs.is_right_header.Reads as reads
-use Rattle.visits.proofs.is_right_header.Lts as lts
-use Rattle.letters.proofs.word_of.Reads as word-of-reads
-use Rattle.visits.proofs.is_at_place.Reads as is-at-place-reads
-use Rattle.visits.proofs.is_on.Reads as is-on-reads
 
--- src/lib.rt:132:9
 word-of-requires : tie.Need-word-of-requires
 word-of-requires c κs = word-lies (c .before .before .before .args .s) (c .before .before .before .args .node .now) (c .before .before .before .args .b) (c .before .before .before .pre .1) 1 (omega arith)
 
--- src/lib.rt:133:22
 word-of-requires-2 : tie.Need-word-of-requires-2
 word-of-requires-2 c κs = word-lies (c .before .before .before .before .args .s) (c .before .before .before .before .args .node .now) (c .before .before .before .before .args .b) (c .before .before .before .before .pre .1) 0 (omega arith)
 
--- src/lib.rt:133:9
 is-on-requires : tie.Need-is-on-requires
 is-on-requires c κs = right-length (c .before .before .before .before .before .args .table .now) (c .before .before .before .before .before .pre .0 .table)
 
--- src/lib.rt:134:9
 returns : tie.Need-returns
 returns c = header-first (c .before .before .before .before .before .before .before .args .s) (c .before .before .before .before .before .before .before .args .node .now) (c .before .before .before .before .before .before .before .args .table .now) (c .before .before .before .before .before .before .before .args .seats .now) (c .before .before .before .before .before .before .before .args .i) (c .before .before .before .before .before .before .before .args .p) (c .before .before .before .before .before .before .before .pre .0) (wordsFrom (c .before .before .before .before .before .before .before .args .s) (c .before .before .before .before .before .before .before .args .node .now) (c .before .before .before .before .before .before .before .args .b)) _ _
     (c .before .before .word-of2 .ensures ∙ (head-word (c .before .before .before .before .before .before .before .args .s) (c .before .before .before .before .before .before .before .args .node .now) (c .before .before .before .before .before .before .before .args .b) (c .before .before .before .before .before .before .before .pre .1) 0 (omega arith))) (c .before .before .before .word-of .ensures ∙ (head-word (c .before .before .before .before .before .before .before .args .s) (c .before .before .before .before .before .before .before .args .node .now) (c .before .before .before .before .before .before .before .args .b) (c .before .before .before .before .before .before .before .pre .1) 1 (omega arith))) (sym (c .before .is-on .ensures) ∙ not-true _ (c .if1 .taken))
 
--- src/lib.rt:136:9
 word-of-requires-3 : tie.Need-word-of-requires-3
 word-of-requires-3 c κs = word-lies (c .before .before .before .before .before .before .before .args .s) (c .before .before .before .before .before .before .before .args .node .now) (c .before .before .before .before .before .before .before .args .b) (c .before .before .before .before .before .before .before .pre .1) 2 (omega arith)
 
--- src/lib.rt:137:9
 word-of-requires-4 : tie.Need-word-of-requires-4
 word-of-requires-4 c κs = word-lies (c .before .before .before .before .before .before .before .before .args .s) (c .before .before .before .before .before .before .before .before .args .node .now) (c .before .before .before .before .before .before .before .before .args .b) (c .before .before .before .before .before .before .before .before .pre .1) 3 (omega arith)
 
--- src/lib.rt:138:9
 is-on-requires-2 : tie.Need-is-on-requires-2
 is-on-requires-2 c κs = right-length (c .before .before .before .before .before .before .before .before .before .args .table .now) (c .before .before .before .before .before .before .before .before .before .pre .0 .table)
 
--- src/lib.rt:139:9
 returns-2 : tie.Need-returns-2
 returns-2 c = header-second (c .before .before .before .before .before .before .before .before .before .before .before .args .s) (c .before .before .before .before .before .before .before .before .before .before .before .args .node .now) (c .before .before .before .before .before .before .before .before .before .before .before .args .table .now) (c .before .before .before .before .before .before .before .before .before .before .before .args .seats .now) (c .before .before .before .before .before .before .before .before .before .before .before .args .i) (c .before .before .before .before .before .before .before .before .before .before .before .args .p) (c .before .before .before .before .before .before .before .before .before .before .before .pre .0) (wordsFrom (c .before .before .before .before .before .before .before .before .before .before .before .args .s) (c .before .before .before .before .before .before .before .before .before .before .before .args .node .now) (c .before .before .before .before .before .before .before .before .before .before .before .args .b)) _ _ _ _
     (c .before .before .before .before .before .before .word-of2 .ensures ∙ (head-word (c .before .before .before .before .before .before .before .before .before .before .before .args .s) (c .before .before .before .before .before .before .before .before .before .before .before .args .node .now) (c .before .before .before .before .before .before .before .before .before .before .before .args .b) (c .before .before .before .before .before .before .before .before .before .before .before .pre .1) 0 (omega arith))) (c .before .before .before .before .before .before .before .word-of .ensures ∙ (head-word (c .before .before .before .before .before .before .before .before .before .before .before .args .s) (c .before .before .before .before .before .before .before .before .before .before .before .args .node .now) (c .before .before .before .before .before .before .before .before .before .before .before .args .b) (c .before .before .before .before .before .before .before .before .before .before .before .pre .1) 1 (omega arith))) (c .before .before .before .word-of3 .ensures ∙ (head-word (c .before .before .before .before .before .before .before .before .before .before .before .args .s) (c .before .before .before .before .before .before .before .before .before .before .before .args .node .now) (c .before .before .before .before .before .before .before .before .before .before .before .args .b) (c .before .before .before .before .before .before .before .before .before .before .before .pre .1) 2 (omega arith))) (c .before .before .word-of4 .ensures ∙ (head-word (c .before .before .before .before .before .before .before .before .before .before .before .args .s) (c .before .before .before .before .before .before .before .before .before .before .before .args .node .now) (c .before .before .before .before .before .before .before .before .before .before .before .args .b) (c .before .before .before .before .before .before .before .before .before .before .before .pre .1) 3 (omega arith))) (sym (c .before .is-on2 .ensures) ∙ not-true _ (c .if2 .taken))
 
--- src/lib.rt:141:5
 is-at-place-requires : tie.Need-is-at-place-requires
 is-at-place-requires c κs = search needs
 
--- src/lib.rt:119:1
 returns-3 : tie.Need-returns-3
 returns-3 c = header-yes (c .before .before .before .before .before .before .before .before .before .before .before .before .args .s) (c .before .before .before .before .before .before .before .before .before .before .before .before .args .node .now) (c .before .before .before .before .before .before .before .before .before .before .before .before .args .table .now) (c .before .before .before .before .before .before .before .before .before .before .before .before .args .seats .now) (c .before .before .before .before .before .before .before .before .before .before .before .before .args .i) (c .before .before .before .before .before .before .before .before .before .before .before .before .args .p) (c .before .before .before .before .before .before .before .before .before .before .before .before .pre .0) (wordsFrom (c .before .before .before .before .before .before .before .before .before .before .before .before .args .s) (c .before .before .before .before .before .before .before .before .before .before .before .before .args .node .now) (c .before .before .before .before .before .before .before .before .before .before .before .before .args .b)) _ _ _ _
     (c .before .before .before .before .before .before .before .word-of2 .ensures ∙ (head-word (c .before .before .before .before .before .before .before .before .before .before .before .before .args .s) (c .before .before .before .before .before .before .before .before .before .before .before .before .args .node .now) (c .before .before .before .before .before .before .before .before .before .before .before .before .args .b) (c .before .before .before .before .before .before .before .before .before .before .before .before .pre .1) 0 (omega arith))) (c .before .before .before .before .before .before .before .before .word-of .ensures ∙ (head-word (c .before .before .before .before .before .before .before .before .before .before .before .before .args .s) (c .before .before .before .before .before .before .before .before .before .before .before .before .args .node .now) (c .before .before .before .before .before .before .before .before .before .before .before .before .args .b) (c .before .before .before .before .before .before .before .before .before .before .before .before .pre .1) 1 (omega arith))) (c .before .before .before .before .word-of3 .ensures ∙ (head-word (c .before .before .before .before .before .before .before .before .before .before .before .before .args .s) (c .before .before .before .before .before .before .before .before .before .before .before .before .args .node .now) (c .before .before .before .before .before .before .before .before .before .before .before .before .args .b) (c .before .before .before .before .before .before .before .before .before .before .before .before .pre .1) 2 (omega arith))) (c .before .before .before .word-of4 .ensures ∙ (head-word (c .before .before .before .before .before .before .before .before .before .before .before .before .args .s) (c .before .before .before .before .before .before .before .before .before .before .before .before .args .node .now) (c .before .before .before .before .before .before .before .before .before .before .before .before .args .b) (c .before .before .before .before .before .before .before .before .before .before .before .before .pre .1) 3 (omega arith)))

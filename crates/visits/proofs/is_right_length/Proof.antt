@@ -1,3 +1,4 @@
+-- `visits::is_right_length` meets its contract. Assumes nothing.
 use Rattle.visits.proofs.Read.{told-short, head-lies, told-is, length-low, length-high, length-is}
 use Rattle.blocks.specs.Chain as chain
 use native.Mathlib.Omega.{arith}
@@ -6,40 +7,28 @@ use mathlib.Core.Path.{sym, _∙_, ap}
 use borrow.Author.Needs.{needs}
 use Rattle.visits.proofs.is_right_length.Statement.{statement}
 use Rattle.visits.proofs.is_right_length.Tie as tie
-use Rattle.visits.proofs.is_right_length.Reads as reads
-use Rattle.visits.proofs.is_right_length.Lts as lts
-use Rattle.blocks.proofs.needs_of.Reads as needs-of-reads
-use Rattle.letters.proofs.told_length.Reads as told-length-reads
 
--- src/lib.rt:64:16
 needs-of-requires : tie.Need-needs-of-requires
 needs-of-requires c κs = search needs
 
--- src/lib.rt:65:9
 returns : tie.Need-returns
 returns c = told-short (c .before .before .before .args .s) (c .before .before .before .args .node .now) (c .before .before .before .args .b) (c .before .before .before .args .count) (c .before .before .before .pre) (omega (arith, c .before .needs-of .ensures))
 
--- src/lib.rt:67:13
 told-length-requires : tie.Need-told-length-requires
 told-length-requires c κs = head-lies (c .before .before .before .args .s) (c .before .before .before .args .node .now) (c .before .before .before .args .b) (c .before .before .before .args .count) (c .before .before .before .pre) (omega (arith, c .before .needs-of .ensures))
 
--- src/lib.rt:67:13
 cast-n : tie.Need-cast-n
 cast-n c = search needs
 
--- src/lib.rt:69:9
 returns-2 : tie.Need-returns-2
 returns-2 c = length-low (c .before .before .before .before .before .args .s) (c .before .before .before .before .before .args .node .now) (c .before .before .before .before .before .args .b) (c .before .before .before .before .before .args .count) (c .before .before .before .before .before .pre) (omega (arith, c .before .told-length .ensures, told-is (c .before .before .before .before .before .args .s) (c .before .before .before .before .before .args .node .now) (c .before .before .before .before .before .args .b) (c .before .before .before .before .before .args .count) (c .before .before .before .before .before .pre) (omega (arith, c .before .before .before .needs-of .ensures))))
 
--- src/lib.rt:72:9
 returns-3 : tie.Need-returns-3
 returns-3 c = length-high (c .before .before .before .before .before .before .args .s) (c .before .before .before .before .before .before .args .node .now) (c .before .before .before .before .before .before .args .b) (c .before .before .before .before .before .before .args .count) (c .before .before .before .before .before .before .pre) (omega (arith, c .before .before .told-length .ensures, told-is (c .before .before .before .before .before .before .args .s) (c .before .before .before .before .before .before .args .node .now) (c .before .before .before .before .before .before .args .b) (c .before .before .before .before .before .before .args .count) (c .before .before .before .before .before .before .pre) (omega (arith, c .before .before .before .before .needs-of .ensures))))
 
--- src/lib.rt:74:14
 needs-of-requires-2 : tie.Need-needs-of-requires-2
 needs-of-requires-2 c κs = search needs
 
--- src/lib.rt:60:1
 returns-4 : tie.Need-returns-4
 returns-4 c = let e = c .before .before .before .told-length .ensures ∙ told-is (c .before .before .before .before .before .before .before .args .s) (c .before .before .before .before .before .before .before .args .node .now) (c .before .before .before .before .before .before .before .args .b) (c .before .before .before .before .before .before .before .args .count) (c .before .before .before .before .before .before .before .pre) (omega (arith, c .before .before .before .before .before .needs-of .ensures)) in
     length-is (c .before .before .before .before .before .before .before .args .s) (c .before .before .before .before .before .before .before .args .node .now) (c .before .before .before .before .before .before .before .args .b) (c .before .before .before .before .before .before .before .args .count) (c .before .before .before .before .before .before .before .pre) _ (omega arith) (omega arith) (c .needs-of2 .ensures ∙ ap (chain.needs (c .before .before .before .before .before .before .before .args .s)) e)

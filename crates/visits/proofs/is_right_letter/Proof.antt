@@ -1,3 +1,4 @@
+-- `visits::is_right_letter` meets its contract. Assumes nothing.
 use Rattle.visits.proofs.Judge.{gap-judged, letter-bad, its-ends, left-least, its-count, letter-short, letter-head}
 use borrow.Author.Tests.{not-true, not-false}
 use native.Mathlib.Omega.{arith}
@@ -5,41 +6,28 @@ use mathlib.Core.Path.{_≡_, sym, ap, _∙_}
 use borrow.Author.Needs.{needs}
 use Rattle.visits.proofs.is_right_letter.Statement.{statement}
 use Rattle.visits.proofs.is_right_letter.Tie as tie
-use Rattle.visits.proofs.is_right_letter.Reads as reads
-use Rattle.visits.proofs.is_right_letter.Lts as lts
-use Rattle.visits.proofs.is_right_header.Reads as is-right-header-reads
-use Rattle.visits.proofs.is_right_length.Reads as is-right-length-reads
-use Rattle.visits.proofs.visit.Reads as visit-reads
 
--- src/lib.rt:161:9
 returns : tie.Need-returns
 returns c = gap-judged (c .before .before .before .before .before .args .s) (c .before .before .before .before .before .args .node .now) (c .before .before .before .before .before .args .table .now) (c .before .before .before .before .before .args .i) (c .before .before .before .before .before .args .p) (c .before .before .before .before .before .args .marks .now) (c .before .before .before .before .before .args .b) (c .if1 .taken)
 
--- src/lib.rt:163:29
 visit-requires : tie.Need-visit-requires
 visit-requires c κs = search needs
 
--- src/lib.rt:163:21
 enum-known-left : tie.Need-enum-known-left
 enum-known-left c = search needs
 
--- src/lib.rt:164:9
 enum-told : tie.Need-enum-told
 enum-told c = search needs
 
--- src/lib.rt:164:9
 same-length : tie.Need-same-length
 same-length c = search needs
 
--- src/lib.rt:164:9
 returns-2 : tie.Need-returns-2
 returns-2 c = letter-bad (c .before .before .before .before .before .before .before .before .before .before .before .args .s) (c .before .before .before .before .before .before .before .before .before .before .before .args .node .now) (c .before .before .before .before .before .before .before .before .before .before .before .args .table .now) (c .before .before .before .before .before .before .before .before .before .before .before .args .i) (c .before .before .before .before .before .before .before .before .before .before .before .args .p) (c .before .before .before .before .before .before .before .before .before .before .before .args .marks .now) (c .before .before .before .before .before .before .before .before .before .before .before .args .b) (c .before .before .before .before .before .before .if1 .left) _ _ (c .before .before .before .before .visit .ensures) (c .enum-told .given .1)
 
--- src/lib.rt:166:37
 sub-is-right-length : tie.Need-sub-is-right-length
 sub-is-right-length c = omega (arith, left-least (c .before .before .before .before .before .before .before .before .before .before .before .before .before .args .s) (c .before .before .before .before .before .before .before .before .before .before .before .before .before .args .node .now) (c .before .before .before .before .before .before .before .before .before .before .before .before .before .args .table .now) (c .before .before .before .before .before .before .before .before .before .before .before .before .before .args .i) (c .before .before .before .before .before .before .before .before .before .before .before .before .before .args .p) (c .before .before .before .before .before .before .before .before .before .before .before .before .before .args .marks .now) (c .before .before .before .before .before .before .before .before .before .before .before .before .before .args .b) (c .before .before .before .before .before .before .before .before .if1 .left) _ _ (c .before .before .before .before .before .before .visit .ensures) _ (c .before .before .left .given .1))
 
--- src/lib.rt:166:9
 is-right-length-requires : tie.Need-is-right-length-requires
 is-right-length-requires c κs = record {
   stretch = c .before .before .before .before .before .before .before .before .before .before .before .before .before .pre .0 .stretch;
@@ -47,15 +35,12 @@ is-right-length-requires c κs = record {
   count = its-count (c .before .before .before .before .before .before .before .before .before .before .before .before .before .args .s) (c .before .before .before .before .before .before .before .before .before .before .before .before .before .args .node .now) (c .before .before .before .before .before .before .before .before .before .before .before .before .before .args .table .now) (c .before .before .before .before .before .before .before .before .before .before .before .before .before .args .i) (c .before .before .before .before .before .before .before .before .before .before .before .before .before .args .p) (c .before .before .before .before .before .before .before .before .before .before .before .before .before .args .marks .now) (c .before .before .before .before .before .before .before .before .before .before .before .before .before .args .b) (c .before .before .before .before .before .before .before .before .if1 .left) _ _ (c .before .before .before .before .before .before .visit .ensures) _ (c .before .before .left .given .1);
 }
 
--- src/lib.rt:167:9
 same-length-2 : tie.Need-same-length-2
 same-length-2 c = search needs
 
--- src/lib.rt:167:9
 returns-3 : tie.Need-returns-3
 returns-3 c = letter-short (c .before .before .before .before .before .before .before .before .before .before .before .before .before .before .before .args .s) (c .before .before .before .before .before .before .before .before .before .before .before .before .before .before .before .args .node .now) (c .before .before .before .before .before .before .before .before .before .before .before .before .before .before .before .args .table .now) (c .before .before .before .before .before .before .before .before .before .before .before .before .before .before .before .args .i) (c .before .before .before .before .before .before .before .before .before .before .before .before .before .before .before .args .p) (c .before .before .before .before .before .before .before .before .before .before .before .before .before .before .before .args .marks .now) (c .before .before .before .before .before .before .before .before .before .before .before .before .before .before .before .args .b) (c .before .before .before .before .before .before .before .before .before .before .if1 .left) _ _ (c .before .before .before .before .before .before .before .before .visit .ensures) _ (c .before .before .before .before .left .given .1) (sym (c .before .is-right-length .ensures) ∙ not-true _ (c .if2 .taken))
 
--- src/lib.rt:169:5
 is-right-header-requires : tie.Need-is-right-header-requires
 is-right-header-requires c κs = (
   c .before .before .before .before .before .before .before .before .before .before .before .before .before .before .before .pre .0,
@@ -66,11 +51,9 @@ is-right-header-requires c κs = (
   },
 )
 
--- src/lib.rt:146:1
 same-length-3 : tie.Need-same-length-3
 same-length-3 c = search needs
 
--- src/lib.rt:146:1
 returns-4 : tie.Need-returns-4
 returns-4 c = letter-head (c .before .before .before .before .before .before .before .before .before .before .before .before .before .before .before .before .args .s) (c .before .before .before .before .before .before .before .before .before .before .before .before .before .before .before .before .args .node .now) (c .before .before .before .before .before .before .before .before .before .before .before .before .before .before .before .before .args .table .now) (c .before .before .before .before .before .before .before .before .before .before .before .before .before .before .before .before .args .i) (c .before .before .before .before .before .before .before .before .before .before .before .before .before .before .before .before .args .p) (c .before .before .before .before .before .before .before .before .before .before .before .before .before .before .before .before .args .marks .now) (c .before .before .before .before .before .before .before .before .before .before .before .before .before .before .before .before .args .b) (c .before .before .before .before .before .before .before .before .before .before .before .if1 .left) _ _ (c .before .before .before .before .before .before .before .before .before .visit .ensures) _ (c .before .before .before .before .before .left .given .1) (sym (c .before .before .is-right-length .ensures) ∙ not-false _ (c .before .if2 .left)) _ (c .is-right-header .ensures)
 

@@ -1,0 +1,1 @@
+// No code: small memories, sound and broken in each of the rules, worked through by the checker.
