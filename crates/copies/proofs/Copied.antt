@@ -1,35 +1,35 @@
 -- Letters compared, and what a memory whose letters are right gives of the letter in stage 2. Assumes nothing.
-use mathlib.Core.Path.{_≡_, refl, sym, ap, ap₂, _∙_}
-use mathlib.Core.Bool.{Bool, true, false, cond, _&&_, not, false≢true}
+use mathlib.Core.Path.{_≡_, sym, ap, _∙_}
+use mathlib.Core.Bool.{Bool, true, false, cond, _&&_, not}
 use mathlib.Core.List.{List, [], _∷_}
-use Prim.Native.Nat.{ℕ, zero, suc, _+_, _-_, _*_, _≤_, _<_}
+use Prim.Native.Nat.{ℕ, suc, _+_, _-_, _≤_, _<_}
 use native.Mathlib.Omega.{arith}
 use lib.Dec.{eqb, leb}
-use lib.ListN.{length, getD, take, drop, length-take, length-drop}
+use lib.ListN.{length, getD, take, drop}
 use lib.Seq.{ext-getD, length-take-le}
 use borrow.Author.Tests.{eq-eqb, ne-eqb, leb-true}
-use Rattle.words.specs.Words.{every, all, alike, part}
+use Rattle.words.specs.Words.{all, alike}
 use Rattle.words.proofs.Lists.{split, and-true, every-at, all-at, all-head, alike-same, same-alike}
 use Rattle.settings.specs.declared.Settings.{Settings}
 use Rattle.layout.specs.Places.{nodes, node, sendAt}
 use Rattle.layout.proofs.NodeRows.{by-send}
 use Rattle.queues.specs.declared.Kind.{Kind}
-use Rattle.queues.specs.Queue.{sendKind, items, itemAt, Queue}
-use Rattle.queues.proofs.Views.{length-contents, contents-item}
-use Rattle.blocks.specs.Chain.{needs, text, chain}
+use Rattle.queues.specs.Queue.{sendKind, itemAt, Queue}
+use Rattle.queues.proofs.Views.{contents-item}
+use Rattle.blocks.specs.Chain.{needs, text}
 use Rattle.letters.specs.Letter.{word, letter}
 use Rattle.letters.specs.Asked.{Lies}
 use Rattle.letters.proofs.Rows.{needs-enough}
 use Rattle.letters.proofs.Laws.{word-text}
 use Rattle.letters.proofs.Copies.{length-letter, node-stretch}
 use Rattle.sound.specs.Reading.{tableIn, stageOf, otherOf, heldOf, sendItems}
-use Rattle.sound.specs.Letters.{chainFrom, endsWell, toldLength, wordsFrom, rightLength, rightLetter}
+use Rattle.sound.specs.Letters.{endsWell, toldLength, wordsFrom, rightLength, rightLetter}
 use Rattle.sound.specs.Positions.{namesOther, holdsCopy, held}
 use Rattle.sound.specs.Blocks.{begun, rightLetters}
 use Rattle.sound.proofs.Given.{send-queue}
 use Rattle.visits.specs.Letters.{Readable}
-use Rattle.visits.proofs.Read.{told-range, its-chain, its-lies, its-words, word-lies}
-use Rattle.places.specs.Given.{standsRight, Looked}
+use Rattle.visits.proofs.Read.{told-range, its-chain, its-lies, its-words}
+use Rattle.places.specs.Given.{standsRight}
 use Rattle.copies.specs.Copy.{copyRight, Lettered}
 
 -- ---- rows of words

@@ -3,17 +3,15 @@
 --     seat-.., line-.., kind-..     by kind of place; ring-row, row-words, row-ring     a queue in words is a queue in its row, and back
 --     shown-..     what the words show at each kind of place; begun-low, begun-task     against the blocks that begin letters
 use mathlib.Core.Path.{_≡_, refl, ap, _∙_, subst}
-use mathlib.Core.Bool.{Bool, true, _&&_, _||_}
+use mathlib.Core.Bool.{true}
 use mathlib.Core.List.{List, []}
 use mathlib.Core.Logic.{⊎-elim}
 use Prim.Native.Nat.{ℕ, _+_, _-_, _≤_, _<_}
 use native.Mathlib.Omega.{arith}
-use lib.Dec.{eqb, ltb, leb}
 use lib.ListN.{length, getD}
-use borrow.Author.Tests.{lt-ltb, le-ltb, ltb-true, ltb-false, leb-true, le-leb, eqb-true, eq-eqb}
-use Rattle.words.specs.Words.{every}
+use borrow.Author.Tests.{lt-ltb, le-ltb}
 use Rattle.words.specs.Rows as wordRows
-use Rattle.words.proofs.Lists.{split, le-or-lt, and-true, every-at, every-all}
+use Rattle.words.proofs.Lists.{le-or-lt}
 use Rattle.words.proofs.Rows.{but-none, length-row, getD-row}
 use Rattle.settings.specs.declared.Settings.{Settings}
 use Rattle.layout.specs.Rows.{width}
@@ -21,10 +19,11 @@ use Rattle.layout.specs.Asked.{Stretch}
 use Rattle.layout.proofs.NodeRows.{by-send, by-ack, by-task, row-fits}
 use Rattle.blocks.proofs.Rows.{rows}
 use Rattle.queues.specs.declared.Kind.{Kind}
-use Rattle.queues.specs.Queue.{sendKind, ackKind, taskKind, start, items, itemAt, contents, Placed, Queue}
+use Rattle.queues.specs.Queue.{sendKind, ackKind, taskKind, start, contents, Placed}
 use Rattle.queues.specs.Items.{live}
 use Rattle.queues.proofs.Ring.{Ring, ring-of, ring-queue, ring-contents}
 use Rattle.queues.proofs.InRow.{Room, ring-up, ring-down}
+use Rattle.sound.proofs.Shapes.{shape-queue, queue-shape}
 use Rattle.sound.specs.Reading.{sendItems, ackItems, taskItems}
 use Rattle.sound.specs.Queues.{inShape}
 use Rattle.sound.specs.Positions.{held}
@@ -94,30 +93,6 @@ pub line-in : (i p : ℕ) → i < 6 → 1 ≤ p → p < 77 → (1 ≤ line i p) 
 line-in i p l h k =
     at-place (λ (p : ℕ). (1 ≤ line i p) × (line i p < 77))
     (λ k g. rw (line-send i k g) (omega arith, omega arith)) (λ k g. rw (line-ack i k g) (omega arith, omega arith)) (λ q g. rw (line-task i q g) (omega arith, omega arith)) p h k
-
--- ---- the test of a queue's shape
-module _ (k : Kind) (l : List ℕ) (q : ℕ) where
-  pub shape-queue : Placed k l q → inShape k l q ≡ true → Queue k l q
-  unfolding inShape
-  shape-queue p e =
-      let n : ℕ = items k l q in
-      let t : ℕ → Bool = λ i. ltb i n || eqb (itemAt k l q i) 0 in
-      let a = and-true (ltb (start k l q) (k .slots)) (leb n (k .slots) && every (k .slots) t) e in
-      let b = and-true (leb n (k .slots)) (every (k .slots) t) (a .1) in
-      record {
-        placed = p;
-        begins = ltb-true (start k l q) (k .slots) (a .0);
-        count = leb-true n (k .slots) (b .0);
-        rest = λ i h g. eqb-true (itemAt k l q i) 0 (rw (le-ltb i n h) at (every-at t (k .slots) (b .1) i g));
-      }
-
-  pub queue-shape : Queue k l q → inShape k l q ≡ true
-  unfolding inShape
-  queue-shape w =
-      let n : ℕ = items k l q in
-      let t : ℕ → Bool = λ i. ltb i n || eqb (itemAt k l q i) 0 in
-      rw (lt-ltb (start k l q) (k .slots) (w .begins), le-leb n (k .slots) (w .count))
-      (every-all t (k .slots) (λ i g. split (ltb i n) (λ u. rw u) (λ u. rw u (eq-eqb (itemAt k l q i) 0 (w .rest i (ltb-false i n u) g)))))
 
 -- ---- a queue in a node's words, and in its row
 module _ (s : Settings) (l : List ℕ) (st : Stretch s l) (k : Kind) (r : ℕ) (in-r : r < 77 + s .m) (room : Room k (width s r)) (a : ℕ) (at : wordRows.start (width s) r ≡ a) where

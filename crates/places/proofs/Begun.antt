@@ -1,24 +1,23 @@
 -- What stands at each kind of place, and what is known of the queue there. Assumes nothing.
-use mathlib.Core.Path.{_≡_, refl, sym, ap, _∙_}
-use mathlib.Core.Bool.{Bool, true, false, cond, _&&_, _||_, not, false≢true}
+use mathlib.Core.Path.{_≡_, refl, sym, _∙_}
+use mathlib.Core.Bool.{Bool, true, cond, _&&_}
 use mathlib.Core.List.{List, [], _∷_}
 use Prim.Native.Nat.{ℕ, _+_, _-_, _≤_, _<_}
 use native.Mathlib.Omega.{arith}
 use lib.Dec.{eqb, leb}
-use lib.ListN.{length, getD}
 use borrow.Author.Tests.{eq-eqb, ne-eqb, leb-true}
 use Rattle.words.specs.Words.{part}
 use Rattle.words.proofs.Lists.{and-true}
 use Rattle.settings.specs.declared.Settings.{Settings}
-use Rattle.layout.specs.Places.{nodes, node, nodeAt, nodeSize, sendAt, ackAt, taskAt}
+use Rattle.layout.specs.Places.{node, nodeAt, nodeSize, sendAt, ackAt, taskAt}
 use Rattle.layout.specs.Asked.{Stretch}
-use Rattle.layout.proofs.NodeRows.{by-head, by-send, by-ack, by-task}
+use Rattle.layout.proofs.NodeRows.{by-send, by-ack, by-task}
 use Rattle.queues.specs.declared.Kind.{Kind}
 use Rattle.queues.specs.Queue.{sendKind, ackKind, taskKind, contents, Queue}
 use Rattle.queues.specs.Items.{live}
 use Rattle.queues.proofs.Items.{live-cons}
 use Rattle.letters.proofs.Copies.{node-stretch}
-use Rattle.sound.specs.Reading.{stageOf, otherOf, heldOf, sendItems, ackItems, taskItems}
+use Rattle.sound.specs.Reading.{stageOf, heldOf, sendItems, ackItems, taskItems}
 use Rattle.sound.specs.Positions.{namesOther, held}
 use Rattle.sound.specs.Blocks.{begun, chains}
 use Rattle.sound.proofs.Given.{send-queue, send-live, ack-queue, ack-live, task-queue}

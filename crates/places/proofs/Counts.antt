@@ -1,16 +1,16 @@
 -- Marks are counts: after a list is marked, each mark has risen by how often the block stands in the list. Assumes nothing.
-use mathlib.Core.Path.{_≡_, refl, sym, ap, _∙_}
-use mathlib.Core.Bool.{Bool, true, false, _&&_, false≢true}
-use mathlib.Core.List.{List, [], _∷_, _++_}
-use Prim.Native.Nat.{ℕ, zero, suc, _+_, _≤_, _<_}
+use mathlib.Core.Path.{_≡_, refl}
+use mathlib.Core.Bool.{true}
+use mathlib.Core.List.{List, [], _∷_}
+use Prim.Native.Nat.{ℕ, _+_, _≤_, _<_}
 use native.Mathlib.Omega.{arith}
 use lib.Dec.{eqb}
 use lib.ListN.{length, getD, set, length-set}
 use lib.Seq.{getD-set-same, getD-set-other}
 use borrow.Author.Tests.{eq-eqb, eqb-true}
-use Rattle.words.specs.Count.{hit, occurs}
+use Rattle.words.specs.Count.{occurs}
 use Rattle.words.proofs.Lists.{same?, and-true, and-join}
-use Rattle.words.proofs.Count.{hit-self, hit-other, occurs-append}
+use Rattle.words.proofs.Count.{hit-self, hit-other}
 use Rattle.visits.specs.Marks.{fresh, marked}
 
 -- each number of the list is below n

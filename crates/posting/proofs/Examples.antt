@@ -6,7 +6,7 @@ use lib.ListN.{length, getD, set, replicate}
 use Rattle.settings.specs.declared.Settings.{Settings}
 use Rattle.layout.specs.Places.{roomAt, sendAt, taskAt, gapWord, blocksAt, blockAt, nodeSize}
 use Rattle.words.specs.Words.{more}
-use Rattle.blocks.specs.Chain.{needs, list, chain, after, text, free}
+use Rattle.blocks.specs.Chain.{needs, list, chain, text, free}
 use Rattle.blocks.specs.Moves.{enough, taken, takenFrom}
 use Rattle.letters.specs.Letter.{letter, laid}
 use Rattle.queues.specs.Queue.{sendKind, taskKind, run, contents}

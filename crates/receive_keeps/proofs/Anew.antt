@@ -4,7 +4,7 @@ use mathlib.Core.List.{List, []}
 use Prim.Native.Nat.{ℕ, _+_, _*_, _≤_, _<_}
 use native.Mathlib.Omega.{arith}
 use lib.ListN.{length, getD}
-use Rattle.words.proofs.Lists.{put, put-other, same?}
+use Rattle.words.proofs.Lists.{put-other, same?}
 use Rattle.settings.specs.declared.Settings.{Settings}
 use Rattle.layout.specs.Places.{gapWord, nodeSize, node, withNode}
 use Rattle.blocks.proofs.Rows.{rows}

@@ -1,16 +1,16 @@
 -- The row of seats: after n ids each seat's word is the last of them that sits there. Assumes nothing.
-use mathlib.Core.Path.{_≡_, refl, sym, ap, _∙_}
-use mathlib.Core.Bool.{Bool, true, false, cond, _&&_, _||_, not, false≢true}
+use mathlib.Core.Path.{_≡_, refl, sym, _∙_}
+use mathlib.Core.Bool.{true, false, _||_, not}
 use mathlib.Core.List.{List}
-use Prim.Native.Nat.{ℕ, zero, suc, _+_, _*_, _≤_, _<_}
+use Prim.Native.Nat.{ℕ, _+_, _*_, _≤_, _<_}
 use native.Mathlib.Numerals.{add-one}
 use native.Mathlib.Omega.{arith}
 use lib.Dec.{eqb, leb, ltb}
 use lib.ListN.{length, getD, set, replicate, getD-replicate, length-set}
 use lib.Seq.{getD-set-same, getD-set-other}
-use borrow.Author.Tests.{eq-eqb, ne-eqb, leb-true, ltb-true, not-true, not-false}
+use borrow.Author.Tests.{leb-true, ltb-true, not-true}
 use Rattle.words.specs.Words.{every}
-use Rattle.words.proofs.Lists.{split, same?, and-true, and-false, every-at, told-no, told-yes}
+use Rattle.words.proofs.Lists.{split, same?, and-true, every-at, told-no, told-yes}
 use Rattle.layout.specs.Places.{taskIds}
 use Rattle.tasks.specs.Table.{nodeOf, queueOf, holdsNone, isBound, hasSeat, seated, apart, rightTable}
 use Rattle.tasks.specs.Seat.{seatOf}

@@ -1,39 +1,25 @@
 -- What a sound memory gives of its queues: each is a queue, and what its items are. Assumes nothing.
-use mathlib.Core.Path.{_≡_, refl, sym, ap, _∙_}
-use mathlib.Core.Bool.{Bool, true, false, _&&_, _||_, not, false≢true}
+use mathlib.Core.Path.{_≡_, refl, ap, _∙_}
+use mathlib.Core.Bool.{true, false, _&&_, _||_, not, false≢true}
 use mathlib.Core.List.{List, [], _∷_}
 use Prim.Native.Nat.{ℕ, zero, suc, _+_, _≤_, _<_}
 use native.Mathlib.Omega.{arith}
-use lib.Dec.{eqb, leb, ltb}
-use lib.ListN.{length, getD}
-use borrow.Author.Tests.{eqb-true, leb-true, ltb-true, le-ltb}
+use lib.Dec.{eqb, leb}
+use lib.ListN.{length}
 use Rattle.words.specs.Words.{every, all}
-use Rattle.words.proofs.Lists.{split, and-true, every-at, all-head}
+use Rattle.words.proofs.Lists.{and-true, every-at, all-head}
 use Rattle.settings.specs.declared.Settings.{Settings}
 use Rattle.layout.specs.Places.{nodes, taskQueues, sendAt, ackAt, taskAt, queueHead, taskHead, nodeSize, node}
 use Rattle.layout.specs.Asked.{Stretch, Sized}
 use Rattle.layout.proofs.Fits.{send-fits, ack-fits, task-fits}
 use Rattle.queues.specs.declared.Kind.{Kind}
-use Rattle.queues.specs.Queue.{start, items, itemAt, sendKind, ackKind, taskKind, contents, Placed, Queue}
+use Rattle.queues.specs.Queue.{sendKind, ackKind, taskKind, Placed, Queue}
 use Rattle.queues.specs.Items.{live}
 use Rattle.queues.proofs.Items.{live-cons}
 use Rattle.letters.proofs.Copies.{node-stretch}
-use Rattle.sound.specs.Reading.{sendItems, ackItems, taskItems}
+use Rattle.sound.specs.Reading.{sendItems, ackItems}
+use Rattle.sound.proofs.Shapes.{shape-queue}
 use Rattle.sound.specs.Queues.{inShape, rightSend, rightAck, rightTask, rightQueues}
-
--- a queue in shape is one
-module _ (k : Kind) (l : List ℕ) (q : ℕ) where
-  pub shape-queue : Placed k l q → inShape k l q ≡ true → Queue k l q
-  unfolding inShape
-  shape-queue p e =
-      let a = and-true (ltb (start k l q) (k .slots)) _ e in
-      let b = and-true (leb (items k l q) (k .slots)) _ (a .1) in
-      record {
-        placed = p;
-        begins = ltb-true _ _ (a .0);
-        count = leb-true _ _ (b .0);
-        rest = λ i h g. eqb-true (itemAt k l q i) 0 (rw (le-ltb i (items k l q) h) at (every-at (λ j. ltb j (items k l q) || eqb (itemAt k l q j) 0) (k .slots) (b .1) i g));
-      }
 
 -- ---- the queues of a stretch lie in it
 module _ (s : Settings) (l : List ℕ) (st : Stretch s l) (k : Kind) (at : ℕ) where

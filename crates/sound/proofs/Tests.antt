@@ -1,12 +1,12 @@
 -- Tests of many numbers: one more, the same under other words, and joined. Assumes nothing.
 use mathlib.Core.Path.{_≡_, refl, sym, ap, ap₂, _∙_}
-use mathlib.Core.Bool.{Bool, true, false, _&&_, _||_, not, false≢true}
+use mathlib.Core.Bool.{Bool, true, false, _&&_}
 use mathlib.Core.List.{List, [], _∷_, _++_}
-use Prim.Native.Nat.{ℕ, zero, suc, _+_, _≤_, _<_}
+use Prim.Native.Nat.{ℕ, zero, suc, _+_, _<_}
 use native.Mathlib.Numerals.{add-one}
 use native.Mathlib.Omega.{arith}
 use Rattle.words.specs.Words.{every, all}
-use Rattle.words.proofs.Lists.{and-true, and-join, every-not}
+use Rattle.words.proofs.Lists.{and-join, every-not}
 
 -- ---- tests joined
 pub and-assoc : (a b c : Bool) → (a && b) && c ≡ a && (b && c)

@@ -23,7 +23,7 @@ use Rattle.sound.specs.Queues.{rightQueues}
 use Rattle.sound.specs.Positions.{rightPosition}
 use Rattle.sound.specs.Blocks.{eachOnce, rightLetters}
 use Rattle.sound.specs.Sound.{rightSize, sound}
-use Rattle.sound.proofs.Tests.{and-assoc, and-cross, every-same, no-second}
+use Rattle.sound.proofs.Tests.{and-cross, every-same}
 use Rattle.places.specs.Given.{standsRight, Looked}
 use Rattle.copies.specs.Copy.{copyRight, Lettered}
 use Rattle.soundness.specs.Parts.{nodeRight, seatedRight, Queued}

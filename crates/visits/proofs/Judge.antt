@@ -1,30 +1,27 @@
 -- What the tests of a letter decide together. Assumes nothing.
 use mathlib.Core.Path.{_≡_, refl, sym, ap, ap₂, _∙_}
 use mathlib.Core.Logic.{⊎-elim}
-use mathlib.Core.Bool.{Bool, true, false, cond, _&&_, false≢true}
+use mathlib.Core.Bool.{Bool, true, false, _&&_, false≢true}
 use mathlib.Core.List.{List, [], _∷_, _++_, append-nil, append-assoc}
-use Prim.Native.Nat.{ℕ, zero, suc, _+_, _-_, _≤_, _<_}
+use Prim.Native.Nat.{ℕ, _+_, _-_, _≤_, _<_}
 use native.Mathlib.Omega.{arith}
-use lib.Dec.{eqb, leb}
+use lib.Dec.{eqb}
 use lib.ListN.{length, getD}
-use borrow.Author.Tests.{eq-eqb, ne-eqb}
 use Rattle.words.specs.Words.{all}
-use Rattle.words.proofs.Lists.{and-true, and-join, and-false, le-or-lt, told-no, told-yes}
+use Rattle.words.proofs.Lists.{and-true, and-false, le-or-lt, told-no, told-yes}
 use Rattle.settings.specs.declared.Settings.{Settings}
-use Rattle.layout.specs.Rows.{byRow}
 use Rattle.layout.proofs.NodeRows.{by-head, by-send, by-ack, by-task}
 use Rattle.tasks.specs.Table.{nodeOf, isBound}
 use Rattle.tasks.specs.Seat.{seatOf}
 use Rattle.tasks.specs.declared.Seat.the-variants.{At, Unbound}
 use Rattle.queues.specs.Items.{live}
-use Rattle.queues.proofs.Items.{live-append, live-cons}
-use Rattle.blocks.specs.Chain.{list}
+use Rattle.queues.proofs.Items.{live-cons}
 use Rattle.blocks.proofs.Moves.{length-list}
 use Rattle.sound.specs.Queues.{taskOf}
 use Rattle.sound.specs.Letters.{chainFrom, endsWell, wordsFrom, rightLength, rightHeader, rightPlace, rightLetter}
 use Rattle.sound.specs.Blocks.{chains}
-use Rattle.sound.proofs.Tests.{and-assoc, and-yes, and-cross, all-append, no-second}
-use Rattle.shapes.specs.Seats.{seatAt, Seats}
+use Rattle.sound.proofs.Tests.{and-assoc, and-yes, and-cross, all-append}
+use Rattle.shapes.specs.Seats.{seatAt}
 use Rattle.shapes.proofs.Bound.{bound-no, bound-at}
 use Rattle.visits.specs.declared.Walk.{Walk}
 use Rattle.visits.specs.declared.Walk.the-variants.{Ended, Bad}

@@ -1,22 +1,19 @@
 -- A chain that ends well, and what may be read of the letter in it. Assumes nothing.
-use mathlib.Core.Path.{_≡_, refl, sym, ap, ap₂, _∙_}
-use mathlib.Core.Bool.{Bool, true, false, cond, _&&_, false≢true}
-use mathlib.Core.List.{List, [], _∷_, _++_}
+use mathlib.Core.Path.{_≡_, refl, sym, ap, _∙_}
+use mathlib.Core.Bool.{true, false, _&&_}
+use mathlib.Core.List.{List, [], _∷_}
 use Prim.Native.Nat.{ℕ, zero, suc, _+_, _-_, _*_, _/_, _%_, _≤_, _<_}
 use native.Mathlib.Nat.{suc-mul, mul-le-mul-right, div-add-mod'}
 use native.Mathlib.Omega.{arith}
 use lib.Dec.{eqb, leb}
-use lib.ListN.{length, getD, take, List·getD-eq-default}
-use lib.Seq.{getD-take}
-use borrow.Author.Tests.{eq-eqb, ne-eqb, eqb-true, le-leb, lt-leb, leb-true}
+use lib.ListN.{length, getD, List·getD-eq-default}
+use borrow.Author.Tests.{eqb-true, le-leb, lt-leb, leb-true}
 use Rattle.words.specs.Words.{all}
-use Rattle.words.specs.Count.{occurs}
-use Rattle.words.proofs.Lists.{same?, and-true, and-join, and-false, all-head}
+use Rattle.words.proofs.Lists.{same?, and-true, and-false, all-head}
 use Rattle.settings.specs.declared.Settings.{Settings}
 use Rattle.layout.specs.Asked.{Stretch}
-use Rattle.blocks.specs.Chain.{needs, link, list, after, chain, text, Within}
-use Rattle.blocks.specs.Asked.{Walks}
-use Rattle.blocks.proofs.Chains.{textIn, length-text}
+use Rattle.blocks.specs.Chain.{needs, link, list, chain, text, Within}
+use Rattle.blocks.proofs.Chains.{length-text}
 use Rattle.blocks.proofs.Rows.{rows, within-in, text-rows, block-long}
 use Rattle.letters.specs.Letter.{word, letter}
 use Rattle.letters.specs.Asked.{Lies}

@@ -1,19 +1,18 @@
 -- What each path of a visit decides, and marks of lists joined. Assumes nothing.
-use mathlib.Core.Path.{_≡_, refl, sym, ap, ap₂, _∙_}
-use mathlib.Core.Bool.{Bool, true, false, cond, _&&_, false≢true}
+use mathlib.Core.Path.{_≡_, refl, sym, ap, _∙_}
+use mathlib.Core.Bool.{Bool, true, false, _&&_, false≢true}
 use mathlib.Core.List.{List, [], _∷_, _++_}
-use Prim.Native.Nat.{ℕ, zero, suc, _+_, _-_, _≤_, _<_}
+use Prim.Native.Nat.{ℕ, _+_, _-_, _≤_, _<_}
 use native.Mathlib.Omega.{arith}
 use lib.Dec.{eqb, leb}
 use lib.ListN.{length, getD, set, length-set}
-use borrow.Author.Tests.{eq-eqb, ne-eqb, le-leb, lt-leb, leb-true}
+use borrow.Author.Tests.{ne-eqb, le-leb, lt-leb}
 use Rattle.words.specs.Words.{all}
-use Rattle.words.proofs.Lists.{and-true, and-join, and-false, all-head}
+use Rattle.words.proofs.Lists.{and-false}
 use Rattle.settings.specs.declared.Settings.{Settings}
-use Rattle.blocks.specs.Chain.{link, list, after, chain, Within}
-use Rattle.blocks.proofs.Steps.{list-step, list-none, after-step, down}
-use Rattle.blocks.proofs.Moves.{length-list}
-use Rattle.sound.proofs.Tests.{and-assoc, and-cross, all-append}
+use Rattle.blocks.specs.Chain.{link, list, after}
+use Rattle.blocks.proofs.Steps.{list-step, list-none}
+use Rattle.sound.proofs.Tests.{and-assoc}
 use Rattle.visits.specs.declared.Walk.{Walk}
 use Rattle.visits.specs.declared.Walk.the-variants.{Ended, Bad}
 use Rattle.visits.specs.Marks.{fresh, marked, endsWithin, clean, Visited}

@@ -14,7 +14,7 @@ use Rattle.tasks.specs.Table.{nodeOf, isBound, rightTable}
 use Rattle.sound.specs.Letters.{chainFrom, endsWell, rightLength, rightLetter}
 use Rattle.sound.specs.Blocks.{chains}
 use Rattle.shapes.specs.Seats.{seatAt, Seats}
-use Rattle.visits.specs.Marks.{fresh, marked}
+use Rattle.visits.specs.Marks.{fresh}
 
 -- a chain that was visited to its end, and how many blocks it has
 pub record Whole (s : Settings) (words : List ℕ) (b n : ℕ) : Type 0 where

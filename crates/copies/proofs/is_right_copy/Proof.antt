@@ -1,10 +1,8 @@
 -- `copies::is_right_copy` meets its contract. Assumes nothing.
 use Rattle.copies.proofs.Copied.{copy-none, other-small, queue-is, both-read, copy-is}
-use Rattle.sound.specs.Reading.{otherOf}
 use Rattle.places.proofs.Begun.{node-lent}
 use Rattle.layout.proofs.Fits.{nodes-fit}
 use native.Mathlib.Omega.{arith}
-use mathlib.Core.Path.{_≡_, refl, sym, _∙_}
 use borrow.Author.Needs.{needs}
 use Rattle.copies.proofs.is_right_copy.Statement.{statement}
 use Rattle.copies.proofs.is_right_copy.Tie as tie

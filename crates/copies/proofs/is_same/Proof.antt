@@ -4,7 +4,7 @@ use borrow.Author.Count.{below-more}
 use lib.ListN.{length, getD}
 use native.Mathlib.Omega.{arith}
 use Prim.Native.Nat.{ℕ, _≤_, _<_, _-_}
-use mathlib.Core.Path.{_≡_, sym, _∙_}
+use mathlib.Core.Path.{_≡_}
 use borrow.Author.Needs.{needs}
 use Rattle.copies.proofs.is_same.Statement.{statement}
 use Rattle.copies.proofs.is_same.Tie as tie

@@ -3,7 +3,7 @@ use Rattle.copies.proofs.Copied.{side-long, told-most, lies-side, lette
 use Rattle.visits.proofs.Read.{word-lies}
 use Rattle.words.specs.Words.{alike}
 use native.Mathlib.Omega.{arith}
-use mathlib.Core.Path.{_≡_, refl, sym, ap₂, _∙_}
+use mathlib.Core.Path.{refl, sym, ap₂, _∙_}
 use borrow.Author.Needs.{needs}
 use Rattle.copies.proofs.is_same_letter.Statement.{statement}
 use Rattle.copies.proofs.is_same_letter.Tie as tie

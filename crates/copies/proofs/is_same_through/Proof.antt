@@ -1,8 +1,7 @@
 -- `copies::is_same_through` meets its contract. Assumes nothing.
 use Rattle.copies.proofs.Copied.{lies-from, letter-from}
 use Rattle.words.specs.Words.{alike}
-use native.Mathlib.Omega.{arith}
-use mathlib.Core.Path.{_≡_, sym, ap₂, _∙_}
+use mathlib.Core.Path.{sym, ap₂, _∙_}
 use borrow.Author.Needs.{needs}
 use Rattle.copies.proofs.is_same_through.Statement.{statement}
 use Rattle.copies.proofs.is_same_through.Tie as tie

@@ -2,7 +2,6 @@
 use Prim.Native.Nat.{_-_}
 use Rattle.places.proofs.Begun.{lent-placing, ack-is, begun-ack, judged-same, node-lent}
 use native.Mathlib.Omega.{arith}
-use mathlib.Core.Path.{_≡_, sym, _∙_}
 use borrow.Author.Needs.{needs}
 use Rattle.places.proofs.are_right_acks.Statement.{statement}
 use Rattle.places.proofs.are_right_acks.Tie as tie

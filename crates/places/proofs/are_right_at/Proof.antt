@@ -4,7 +4,7 @@ use Rattle.visits.specs.Marks.{marked}
 use Rattle.sound.specs.Blocks.{begun, chains}
 use native.Mathlib.Omega.{arith}
 use Prim.Native.Nat.{ℕ}
-use mathlib.Core.Path.{_≡_, refl, sym, subst, _∙_}
+use mathlib.Core.Path.{sym, subst}
 use borrow.Author.Needs.{needs}
 use Rattle.places.proofs.are_right_at.Statement.{statement}
 use Rattle.places.proofs.are_right_at.Tie as tie

@@ -9,7 +9,7 @@ use lib.ListN.{length}
 use native.Mathlib.Omega.{arith}
 use Prim.Native.Nat.{_≤_, _-_}
 use mathlib.Core.Bool.{true}
-use mathlib.Core.Path.{_≡_, refl, sym, _∙_}
+use mathlib.Core.Path.{_≡_, refl, _∙_}
 use borrow.Author.Needs.{needs}
 use Rattle.places.proofs.are_right_places.Statement.{statement}
 use Rattle.places.proofs.are_right_places.Tie as tie

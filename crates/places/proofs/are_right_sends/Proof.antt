@@ -1,7 +1,6 @@
 -- `places::are_right_sends` meets its contract. Assumes nothing.
 use Rattle.places.proofs.Begun.{lent-placing, send-is, begun-send, judged-same}
 use native.Mathlib.Omega.{arith}
-use mathlib.Core.Path.{_≡_, sym, _∙_}
 use borrow.Author.Needs.{needs}
 use Rattle.places.proofs.are_right_sends.Statement.{statement}
 use Rattle.places.proofs.are_right_sends.Tie as tie

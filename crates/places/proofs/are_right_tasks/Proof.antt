@@ -1,7 +1,6 @@
 -- `places::are_right_tasks` meets its contract. Assumes nothing.
 use Rattle.places.proofs.Begun.{lent-placing, task-is, begun-task, judged-same}
 use native.Mathlib.Omega.{arith}
-use mathlib.Core.Path.{_≡_, sym, _∙_}
 use borrow.Author.Needs.{needs}
 use Rattle.places.proofs.are_right_tasks.Statement.{statement}
 use Rattle.places.proofs.are_right_tasks.Tie as tie

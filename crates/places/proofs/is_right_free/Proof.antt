@@ -2,7 +2,6 @@
 use Rattle.blocks.proofs.Steps.{head-fits}
 use native.Mathlib.Omega.{arith}
 use Rattle.places.proofs.Once.{free-bad, free-good}
-use mathlib.Core.Path.{_≡_, sym, _∙_}
 use borrow.Author.Needs.{needs}
 use Rattle.places.proofs.is_right_free.Statement.{statement}
 use Rattle.places.proofs.is_right_free.Tie as tie

@@ -2,7 +2,6 @@
 use Rattle.places.proofs.Begun.{lent-placing, hand-none, begun-held, judged-same}
 use Rattle.layout.proofs.Fits.{nodes-fit}
 use native.Mathlib.Omega.{arith}
-use mathlib.Core.Path.{_≡_, sym, _∙_}
 use borrow.Author.Needs.{needs}
 use Rattle.places.proofs.is_right_hand.Statement.{statement}
 use Rattle.places.proofs.is_right_hand.Tie as tie

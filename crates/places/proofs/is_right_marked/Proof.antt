@@ -3,7 +3,7 @@ use Rattle.places.proofs.Once.{free-no, places-no, node-is}
 use Rattle.places.proofs.Begun.{lent-stretch}
 use borrow.Author.Tests.{not-true, not-false}
 use native.Mathlib.Omega.{arith}
-use mathlib.Core.Path.{_≡_, refl, sym, _∙_}
+use mathlib.Core.Path.{sym, _∙_}
 use borrow.Author.Needs.{needs}
 use Rattle.places.proofs.is_right_marked.Statement.{statement}
 use Rattle.places.proofs.is_right_marked.Tie as tie

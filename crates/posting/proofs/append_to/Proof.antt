@@ -4,7 +4,6 @@ use Rattle.posting.proofs.Rooms.{queued-task, queued-node}
 use borrow.Author.Needs.{needs}
 use Rattle.posting.proofs.append_to.Statement.{statement}
 use Rattle.posting.proofs.append_to.Tie as tie
-use Rattle.queues.proofs.append.Reads as append-reads′
 
 task-at-requires : tie.Need-task-at-requires
 task-at-requires c κs = let x = c .before .before .before .before in (x .pre .stretch .range, queued-task (x .args .s) (x .args .node .now) (x .args .goal) (x .pre .queue) _ (c .before .goal .given .1) .0)

@@ -1,5 +1,5 @@
 -- `shapes::is_right_post` meets its contract. Assumes nothing.
-use Rattle.sound.proofs.Given.{shape-queue}
+use Rattle.sound.proofs.Shapes.{shape-queue}
 use Rattle.shapes.proofs.Steps.{post-shape, post-own, post-other}
 use borrow.Author.Tests.{not-true, not-false}
 use lib.Dec.{eqb}

@@ -1,7 +1,7 @@
 -- `shapes::is_right_seat` meets its contract. Assumes nothing.
 use lib.ListN.{getD}
 use Prim.Native.Nat.{ℕ, _+_}
-use Rattle.sound.proofs.Given.{shape-queue}
+use Rattle.sound.proofs.Shapes.{shape-queue}
 use Rattle.shapes.proofs.Steps.{seat-shape, seat-empty, seat-unbound, seat-gap, seat-high, seat-flag}
 use borrow.Author.Tests.{not-true, not-false}
 use native.Mathlib.Omega.{arith}

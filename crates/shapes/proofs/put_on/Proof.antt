@@ -1,9 +1,8 @@
 -- `shapes::put_on` meets its contract. Assumes nothing.
-use Prim.Native.Nat.{_≤_}
 use Rattle.shapes.proofs.Bound.{bound-at, bound-range, put-none, put-some}
 use Rattle.tasks.proofs.Laws.{right-length}
 use native.Mathlib.Omega.{arith}
-use mathlib.Core.Path.{sym, ap, _∙_}
+use mathlib.Core.Path.{sym, _∙_}
 use borrow.Author.Needs.{needs}
 use Rattle.shapes.proofs.put_on.Statement.{statement}
 use Rattle.shapes.proofs.put_on.Tie as tie

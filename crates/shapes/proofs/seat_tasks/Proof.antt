@@ -1,6 +1,4 @@
 -- `shapes::seat_tasks` meets its contract. Assumes nothing.
-use mathlib.Core.Path.{subst, sym}
-use Rattle.shapes.specs.Seats.{putOn}
 use Rattle.shapes.proofs.Bound.{SeatsTo, seats-none, seats-more, seats-all}
 use native.Mathlib.Omega.{arith}
 use Prim.Native.Nat.{_≤_, _-_}

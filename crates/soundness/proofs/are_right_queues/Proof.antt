@@ -3,7 +3,6 @@ use Rattle.shapes.proofs.Rule.{stretch-queues}
 use Rattle.shapes.specs.Shape.{rightStretch}
 use Rattle.places.proofs.Begun.{node-lent}
 use Rattle.letters.proofs.Copies.{node-stretch}
-use Rattle.layout.specs.Asked.{Stretch}
 use Prim.Native.Nat.{ℕ}
 use mathlib.Core.List.{List}
 use mathlib.Core.Path.{ap}
@@ -14,7 +13,7 @@ use borrow.Author.Tests.{not-true, not-false}
 use native.Mathlib.Omega.{arith}
 use Prim.Native.Nat.{_≤_, _-_}
 use mathlib.Core.Bool.{true}
-use mathlib.Core.Path.{_≡_, sym, _∙_}
+use mathlib.Core.Path.{_≡_, _∙_}
 use borrow.Author.Needs.{needs}
 use Rattle.soundness.proofs.are_right_queues.Statement.{statement}
 use Rattle.soundness.proofs.are_right_queues.Tie as tie

@@ -1,8 +1,6 @@
 -- `soundness::is_other` meets its contract. Assumes nothing.
 use Rattle.soundness.proofs.Places.{other-high, other-own, other-queue, other-is}
 use Rattle.places.proofs.Begun.{node-lent}
-use native.Mathlib.Omega.{arith}
-use mathlib.Core.Path.{_≡_, sym, _∙_}
 use borrow.Author.Needs.{needs}
 use Rattle.soundness.proofs.is_other.Statement.{statement}
 use Rattle.soundness.proofs.is_other.Tie as tie

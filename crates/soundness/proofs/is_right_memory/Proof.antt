@@ -3,7 +3,7 @@ use Rattle.sound.proofs.Tests.{no-first, yes-first}
 use Rattle.layout.proofs.Fits.{nodes-fit}
 use borrow.Author.Tests.{not-true, not-false}
 use native.Mathlib.Omega.{arith}
-use mathlib.Core.Path.{_≡_, refl, sym, _∙_}
+use mathlib.Core.Path.{refl, sym, _∙_}
 use borrow.Author.Needs.{needs}
 use Rattle.soundness.proofs.is_right_memory.Statement.{statement}
 use Rattle.soundness.proofs.is_right_memory.Tie as tie

@@ -1,8 +1,7 @@
 -- `soundness::is_right_seated` meets its contract. Assumes nothing.
 use Rattle.soundness.proofs.Rules.{seated-queues, queued, seated-standing, looked, seated-nodes, lettered, seated-copies}
 use borrow.Author.Tests.{not-true, not-false}
-use mathlib.Core.Path.{_≡_, sym, _∙_}
-use borrow.Author.Needs.{needs}
+use mathlib.Core.Path.{sym, _∙_}
 use Rattle.soundness.proofs.is_right_seated.Statement.{statement}
 use Rattle.soundness.proofs.is_right_seated.Tie as tie
 

@@ -1,8 +1,7 @@
 -- `soundness::is_sound` meets its contract. Assumes nothing.
 use Rattle.soundness.proofs.Rules.{made-range}
 use Rattle.soundness.proofs.Rules.{sound-short, sound-refused, sound-range, sound-size, sound-turn, sound-rest}
-use native.Mathlib.Omega.{arith}
-use mathlib.Core.Path.{_≡_, refl, sym, _∙_}
+use mathlib.Core.Path.{sym, _∙_}
 use borrow.Author.Needs.{needs}
 use Rattle.soundness.proofs.is_sound.Statement.{statement}
 use Rattle.soundness.proofs.is_sound.Tie as tie

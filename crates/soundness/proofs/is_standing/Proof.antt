@@ -4,7 +4,7 @@ use Rattle.layout.proofs.Fits.{nodes-fit}
 use borrow.Author.Tests.{not-true, not-false}
 use native.Mathlib.Omega.{arith}
 use Prim.Native.Nat.{_+_, _*_}
-use mathlib.Core.Path.{_≡_, sym, _∙_}
+use mathlib.Core.Path.{sym, _∙_}
 use borrow.Author.Needs.{needs}
 use Rattle.soundness.proofs.is_standing.Statement.{statement}
 use Rattle.soundness.proofs.is_standing.Tie as tie

@@ -1,7 +1,6 @@
 use Rattle.visits.proofs.Walks.{visit-end, visit-none, visit-above, visit-marked, visit-step}
 use lib.ListN.{length-set}
 use mathlib.Core.Path.{_∙_}
-use borrow.Author.Needs.{needs}
 -- The proof of the cycle of calls {visit}. Assumes nothing.
 use native.Mathlib.Omega.{arith}
 use Prim.Native.Nat.{ℕ, _<_}

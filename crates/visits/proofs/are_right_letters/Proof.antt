@@ -4,8 +4,8 @@ use Rattle.visits.proofs.Turns.{Turn, turn-start, turn-end, turn-bad, t
 use borrow.Author.Tests.{not-true, not-false}
 use lib.ListN.{length}
 use native.Mathlib.Omega.{arith}
-use Prim.Native.Nat.{_≤_, _<_, _-_}
-use mathlib.Core.Path.{_≡_, sym, _∙_}
+use Prim.Native.Nat.{_≤_, _-_}
+use mathlib.Core.Path.{_≡_, _∙_}
 use borrow.Author.Needs.{needs}
 use Rattle.visits.proofs.are_right_letters.Statement.{statement}
 use Rattle.visits.proofs.are_right_letters.Tie as tie

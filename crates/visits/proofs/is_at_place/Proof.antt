@@ -1,7 +1,7 @@
 -- `visits::is_at_place` meets its contract. Assumes nothing.
 use Rattle.visits.proofs.Judge.{at-hand, at-send, at-ack, at-task}
 use native.Mathlib.Omega.{arith}
-use mathlib.Core.Path.{sym, _∙_}
+use mathlib.Core.Path.{_∙_}
 use borrow.Author.Needs.{needs}
 use Rattle.visits.proofs.is_at_place.Statement.{statement}
 use Rattle.visits.proofs.is_at_place.Tie as tie

@@ -3,8 +3,6 @@ use Rattle.visits.specs.Letters.{isFromTo}
 use mathlib.Core.Path.{refl}
 use Rattle.sound.proofs.Tests.{no-first, yes-first}
 use borrow.Author.Tests.{eq-eqb, ne-eqb}
-use mathlib.Core.Path.{sym, _∙_}
-use borrow.Author.Needs.{needs}
 use Rattle.visits.proofs.is_from_to.Statement.{statement}
 use Rattle.visits.proofs.is_from_to.Tie as tie
 

@@ -5,7 +5,7 @@ use Rattle.visits.proofs.Read.{head-word, word-lies}
 use Rattle.tasks.proofs.Laws.{right-length}
 use borrow.Author.Tests.{not-true, not-false}
 use native.Mathlib.Omega.{arith}
-use mathlib.Core.Path.{_≡_, sym, ap, ap₂, _∙_}
+use mathlib.Core.Path.{sym, _∙_}
 use borrow.Author.Needs.{needs}
 use Rattle.visits.proofs.is_right_header.Statement.{statement}
 use Rattle.visits.proofs.is_right_header.Tie as tie

@@ -2,8 +2,7 @@
 use Rattle.visits.proofs.Read.{told-short, head-lies, told-is, length-low, length-high, length-is}
 use Rattle.blocks.specs.Chain as chain
 use native.Mathlib.Omega.{arith}
-use Prim.Native.Nat.{ℕ}
-use mathlib.Core.Path.{sym, _∙_, ap}
+use mathlib.Core.Path.{_∙_, ap}
 use borrow.Author.Needs.{needs}
 use Rattle.visits.proofs.is_right_length.Statement.{statement}
 use Rattle.visits.proofs.is_right_length.Tie as tie

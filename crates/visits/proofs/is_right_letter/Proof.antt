@@ -2,7 +2,7 @@
 use Rattle.visits.proofs.Judge.{gap-judged, letter-bad, its-ends, left-least, its-count, letter-short, letter-head}
 use borrow.Author.Tests.{not-true, not-false}
 use native.Mathlib.Omega.{arith}
-use mathlib.Core.Path.{_≡_, sym, ap, _∙_}
+use mathlib.Core.Path.{sym, _∙_}
 use borrow.Author.Needs.{needs}
 use Rattle.visits.proofs.is_right_letter.Statement.{statement}
 use Rattle.visits.proofs.is_right_letter.Tie as tie
