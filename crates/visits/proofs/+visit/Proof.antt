@@ -1,8 +1,8 @@
+-- The proof of the cycle of calls {visit}. The measure is the number of blocks that are owed. Assumes nothing.
 use Rattle.visits.proofs.Walks.{visit-end, visit-none, visit-above, visit-marked, visit-step}
 use lib.ListN.{length-set}
 use mathlib.Core.Path.{_∙_}
 use borrow.Author.Needs.{needs}
--- The proof of the cycle of calls {visit}. Assumes nothing.
 use native.Mathlib.Omega.{arith}
 use Prim.Native.Nat.{ℕ, _<_}
 use borrow.Fn.Kinds.{In}
