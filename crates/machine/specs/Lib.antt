@@ -3,3 +3,4 @@ pub mod Spelled
 pub mod Core
 pub mod Represents
 pub mod Fresh
+pub mod Same

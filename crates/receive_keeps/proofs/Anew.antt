@@ -13,7 +13,7 @@ use Rattle.queues.proofs.Items.{FirstLive}
 use Rattle.sound.specs.Reading.{tableIn}
 use Rattle.machine.specs.Machine.{Letter, firsts, Live, Node, Machine, All}
 use Rattle.machine.specs.Core.{rowsOf, Core}
-use Rattle.machine.specs.Represents.{Right, RightPosition, WellFormed, Shows, RepresentsAt}
+use Rattle.machine.specs.Represents.{InOrder, Right, RightPosition, WellFormed, Shows, RepresentsAt}
 use Rattle.moves.proofs.Memory.{with-node, with-long, with-word, with-table}
 
 -- a machine with other nodes
@@ -79,11 +79,10 @@ module _ (s : Settings) (memory : List ℕ) (m : Machine) (rep : RepresentsAt s 
       sent : 1 ≤ m .stage j → N (m .other j) .letters (1 + j) ≡ m .node (m .other j) .letters (1 + j)
       sent z = same (m .other j) (1 + j) (omega (arith, rep .formed .positions j a .names z)) (omega arith) (λ x y. omega arith)
 
-  formed : WellFormed (tableIn memory) (withNodes m N)
-  formed =
-      let f = rep .formed in
+  order : InOrder (tableIn memory) N
+  order =
+      let f = rep .formed .order in
       record {
-        turn = f .turn;
         still = still;
         live = λ k p a b. rw (same k p a (omega arith) (λ x y. omega arith)) (f .live k p a b);
         fronts = λ k r a b. each (λ (k p : ℕ) (ls : List Letter). FirstLive (firsts ls)) first k (13 + r) a (omega arith) (f .fronts k r a b);
@@ -96,8 +95,10 @@ module _ (s : Settings) (memory : List ℕ) (m : Machine) (rep : RepresentsAt s 
             (λ e′ t′. same k (13 + r) a (omega arith) (λ x y. e′ (omega arith)) ∙ f .unbound k r a b z))
             (λ e t. same k (13 + r) a (omega arith) (λ x y. e x) ∙ f .unbound k r a b z);
         letters = λ k p a b. each (λ (k p : ℕ) (ls : List Letter). All (λ L. Live L → Right (tableIn memory) k p (L .words)) ls) right k p a b (f .letters k p a b);
-        positions = position;
       }
+
+  formed : WellFormed (tableIn memory) (withNodes m N)
+  formed = record { turn = rep .formed .turn; order = order; positions = position }
 
   -- THE MACHINE WITH ITS NODES ANEW
   pub represents-anew : RepresentsAt s (withNode s memory i l) (withNodes m N)

@@ -35,7 +35,8 @@ use Rattle.machine.proofs.Sound.{sound-represents}
 use Rattle.machine.proofs.Back.{represents-sound-at, same-turn, same-stage, same-other, same-free, same-letters}
 use Rattle.moves.specs.Moves.{liveOnes}
 use Rattle.moves.proofs.Memory.{with-long, with-settings, with-table}
-use Rattle.receive_keeps.specs.Receives.{Fixed, asked, NoneAsked, Stays, Receives}
+use Rattle.receive_keeps.specs.Receives.{asked, NoneAsked, Receives}
+use Rattle.machine.specs.Same.{Fixed, Unchanged}
 use Rattle.receive_keeps.proofs.Anew.{withNodes}
 use Rattle.receive_keeps.proofs.Ones.{ones-without, ones-split, ones-before, firsts-at}
 use Rattle.receive_keeps.proofs.Taken.{withoutLetter, without-free, long-empty, represents-empty, long-taken, taken-same, taken-here, represents-taken}
@@ -71,7 +72,7 @@ module _ (s : Settings) (memory : List ℕ) (m : Machine) (rep : RepresentsAt s 
   unfolding wanted from
   wanted-asked n a v =
       let K : Letter = getD ks n gap in
-      let ok : Right (tableIn memory) i (13 + q) (K .words) = all-at (λ (L : Letter). Live L → Right (tableIn memory) i (13 + q) (L .words)) n ks a (rep .formed .letters i (13 + q) h (omega arith)) (alive K v) in
+      let ok : Right (tableIn memory) i (13 + q) (K .words) = all-at (λ (L : Letter). Live L → Right (tableIn memory) i (13 + q) (L .words)) n ks a (rep .formed .order .letters i (13 + q) h (omega arith)) (alive K v) in
       let e = gives-source s memory (rep .size) (m .node) (rep .core) i (13 + q) n h (omega arith) a (tableIn memory) ok in
       rw (ne-eqb (first K) 0 v)
       (ap (λ (x : ℕ). cond (eqb source 0) true (eqb x source)) e ∙ or-cond (eqb source 0) (eqb (getD (K .words) 0 0) source))
@@ -159,15 +160,13 @@ module _ (memory : List ℕ) (e : sound memory ≡ true) (i q : ℕ) (h : i < 6)
   pub vain-sound : sound (withNode (settingsIn memory) memory i (counted (node (settingsIn memory) memory i) (taskAt (settingsIn memory) q + emptyWord))) ≡ true
   vain-sound = represents-sound-at s m₀ m settings₀ rep₀
 
-  pub vain-stays : Stays (machineOf memory) (machineOf (withNode (settingsIn memory) memory i (counted (node (settingsIn memory) memory i) (taskAt (settingsIn memory) q + emptyWord))))
+  pub vain-stays : Unchanged (machineOf memory) (machineOf (withNode (settingsIn memory) memory i (counted (node (settingsIn memory) memory i) (taskAt (settingsIn memory) q + emptyWord))))
   vain-stays =
       let r = represents-own s m₀ m settings₀ rep₀ in
       record {
-        turn = same-turn m₀ m r;
-        stage = same-stage m₀ m r;
-        other = same-other m₀ m r;
+        stands = record { turn = same-turn m₀ m r; stage = same-stage m₀ m r; other = same-other m₀ m r };
         free = same-free m₀ m r;
-        letters = λ k p a b. same-letters m₀ m r k p a (omega arith);
+        letters = same-letters m₀ m r;
       }
 
   -- A LETTER FOUND
@@ -254,7 +253,5 @@ module _ (memory : List ℕ) (e : sound memory ≡ true) (i q : ℕ) (h : i < 6)
           back = same-free m₁ M r i h ∙ ap (λ (X : Node). X .free) (put-same (m .node) i (withoutLetter (m .node i) (13 + q) n)) ∙ without-free (m .node i) (13 + q) n;
           free = λ k a c. same-free m₁ M r k a ∙ ap (λ (X : Node). X .free) (put-other (m .node) i (withoutLetter (m .node i) (13 + q) n) k c);
           letters = λ k p a b c. same-letters m₁ M r k p a (omega arith) ∙ taken-same s memory m rep i q h g n within live-l k p a b c;
-          turn = same-turn m₁ M r;
-          stage = same-stage m₁ M r;
-          other = same-other m₁ M r;
+          stands = record { turn = same-turn m₁ M r; stage = same-stage m₁ M r; other = same-other m₁ M r };
         }

@@ -32,7 +32,8 @@ use Rattle.receive.specs.Take.{Took, filled, inVain, sourceOf, bodyOf, emptied,
 use Rattle.receive.specs.Outcome.{Outcome, collected, receive}
 use Rattle.machine.specs.Machine.{Machine}
 use Rattle.machine.specs.Spelled.{machineOf}
-use Rattle.receive_keeps.specs.Receives.{Fixed, NoneAsked, Stays, Receives}
+use Rattle.receive_keeps.specs.Receives.{NoneAsked, Receives}
+use Rattle.machine.specs.Same.{Fixed, Unchanged}
 use Rattle.receive_keeps.proofs.Kept.{vain-sound, vain-fixed, vain-none, vain-stays, done-sound, done-fixed, done-receives}
 
 -- what is found, with its equation
@@ -50,15 +51,20 @@ sort NoLetter = 1
 sort NoLetterQueueFull = 1
 sort OutTooShort = 2
 
-stays-same : (m : Machine) → Stays m m
-stays-same m = record { turn = refl; stage = λ j h. refl; other = λ j h. refl; free = λ k h. refl; letters = λ k p h g. refl }
+stays-same : (m : Machine) → Unchanged m m
+stays-same m =
+    record {
+      stands = record { turn = refl; stage = λ j h. refl; other = λ j h. refl };
+      free = λ k h. refl;
+      letters = λ k p h g. refl;
+    }
 
 -- what is to be shown of an outcome
 record Keeps (memory : List ℕ) (i q source : ℕ) (out : List ℕ) (o : Outcome) : Type 0 where
   safe : sound memory ≡ true → sound (o .memory) ≡ true
   fixed : Fixed memory (o .memory)
   done : (a n : ℕ) → o .answer ≡ Done a n → Receives (machineOf memory) (machineOf (o .memory)) i q source a n out (o .out)
-  refused : ((a n : ℕ) → o .answer ≡ Done a n → ⊥) → Stays (machineOf memory) (machineOf (o .memory)) × (o .out ≡ out)
+  refused : ((a n : ℕ) → o .answer ≡ Done a n → ⊥) → Unchanged (machineOf memory) (machineOf (o .memory)) × (o .out ≡ out)
   vain : sort (o .answer) ≡ 1 → NoneAsked (machineOf memory) i q source
 
 done-first : (a b c d : ℕ) → Done a b ≡ Done c d → a ≡ c
@@ -171,7 +177,7 @@ module _ (memory : List ℕ) (destination source : ℕ) (out : List ℕ) where
 
   -- REFUSED: the machine and out stay
   pub receive-refused : ((a n : ℕ) → receive memory destination source out .answer ≡ Done a n → ⊥)
-      → Stays (machineOf memory) (machineOf (receive memory destination source out .memory)) × (receive memory destination source out .out ≡ out)
+      → Unchanged (machineOf memory) (machineOf (receive memory destination source out .memory)) × (receive memory destination source out .out ≡ out)
   receive-refused n = keeps-receive .refused n
 
   -- DONE: a letter is taken from the destination's queue

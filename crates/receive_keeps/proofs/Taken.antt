@@ -53,7 +53,7 @@ module _ (s : Settings) (memory : List ℕ) (m : Machine) (rep : RepresentsAt s 
   ls = m .node i .letters (13 + q)
 
   pub ring-of : TaskRing s (rowsOf s memory i (13 + q)) 0 (firsts (m .node i .letters (13 + q)))
-  ring-of = gives-row s memory (rep .size) (m .node) (rep .core) i q h g (rep .shows .flags i q h g) (rep .formed .fronts i q h g)
+  ring-of = gives-row s memory (rep .size) (m .node) (rep .core) i q h g (rep .shows .flags i q h g) (rep .formed .order .fronts i q h g)
 
   long-node : length (node s memory i) ≡ nodeSize s
   long-node = gives-stretch s memory (rep .size) (m .node) (rep .core) i h .long
@@ -68,14 +68,14 @@ module _ (s : Settings) (memory : List ℕ) (m : Machine) (rep : RepresentsAt s 
       let e = task-empty-row s memory (rep .size) (m .node) (rep .core) i q h g ring-of in
       represents-anew s memory m rep i q h g (counted (node s memory i) (taskAt s q + 4)) long-empty (m .node)
       (task-empty-words s memory (rep .size) (m .node) (rep .core) i q h g ring-of)
-      (rep .formed .still)
+      (rep .formed .order .still)
       (λ k p a b c. refl)
       (λ r a n. ap (λ (Q : ℕ → ℕ → List ℕ). Q i (13 + r)) e ∙ row-other R i (13 + q) w i (13 + r) (λ z. n (omega arith)))
-      (rep .formed .fronts i q h g)
+      (rep .formed .order .fronts i q h g)
       (ap (λ (Q : ℕ → ℕ → List ℕ). getD (Q i (13 + q)) 2 0) e ∙ ap (λ (v : List ℕ). getD v 2 0) (row-same R i (13 + q) w)
       ∙ task-empty-flag s R (m .node) (rep .core) i q h g ring-of .flag)
       (λ z. z)
-      (rep .formed .letters i (13 + q) h (omega arith))
+      (rep .formed .order .letters i (13 + q) h (omega arith))
 
   -- THE LETTER AT INDEX n
   module _ (n : ℕ) (is : n < length (m .node i .letters (13 + q))) (some : Live (getD (m .node i .letters (13 + q)) n gap)) where
@@ -115,7 +115,7 @@ module _ (s : Settings) (memory : List ℕ) (m : Machine) (rep : RepresentsAt s 
     row₂ : (r : ℕ) → r < 64 → rowsOf s (withNode s memory i l₂) i (13 + r) ≡ putRow R i (13 + q) (takenOut s (R i (13 + q)) 0 n) i (13 + r)
     row₂ r a =
         ap (λ (x : List ℕ). rowsOf s x i (13 + r)) (sym memory₂)
-        ∙ give-row s m₁ size₁ (put (m .node) i X₁) (task-take-words s memory (rep .size) (m .node) (rep .core) i q h g ring-of n is (rep .formed .still i h)) i h L one₁ some (13 + r) (omega arith) (omega arith)
+        ∙ give-row s m₁ size₁ (put (m .node) i X₁) (task-take-words s memory (rep .size) (m .node) (rep .core) i q h g ring-of n is (rep .formed .order .still i h)) i h L one₁ some (13 + r) (omega arith) (omega arith)
         ∙ ap (λ (Q : ℕ → ℕ → List ℕ). Q i (13 + r)) (task-take-row s memory (rep .size) (m .node) (rep .core) i q h g ring-of n)
 
     abbrev X : Node
@@ -127,8 +127,8 @@ module _ (s : Settings) (memory : List ℕ) (m : Machine) (rep : RepresentsAt s 
     still : (k : ℕ) → k < 6 → put (m .node) i X k .letters 77 ≡ []
     still k a =
         same? k i
-        (λ e t. rw t (without-other (m .node i) (13 + q) n 77 (λ z. omega arith) ∙ rep .formed .still i h))
-        (λ e t. rw t (rep .formed .still k a))
+        (λ e t. rw t (without-other (m .node i) (13 + q) n 77 (λ z. omega arith) ∙ rep .formed .order .still i h))
+        (λ e t. rw t (rep .formed .order .still k a))
 
     pub taken-same : (k p : ℕ) → k < 6 → p < 77 → (k ≡ i → p ≡ 13 + q → ⊥) → put (m .node) i (withoutLetter (m .node i) (13 + q) n) k .letters p ≡ m .node k .letters p
     taken-same k p a b c =
@@ -144,9 +144,9 @@ module _ (s : Settings) (memory : List ℕ) (m : Machine) (rep : RepresentsAt s 
         (withNodes m (put (m .node) i (withoutLetter (m .node i) (13 + q) n)))
     represents-taken =
         let w : List ℕ = takenOut s (R i (13 + q)) 0 n in
-        let f = task-take-flag s R (m .node) (rep .core) i q h g ring-of n is (rep .formed .still i h) in
+        let f = task-take-flag s R (m .node) (rep .core) i q h g ring-of n is (rep .formed .order .still i h) in
         represents-anew s memory m rep i q h g l₂ long-taken (put (m .node) i X)
-        (receive-words s memory (rep .size) (m .node) (rep .core) i q n h g (rep .formed .still i h) ring-of is some)
+        (receive-words s memory (rep .size) (m .node) (rep .core) i q n h g (rep .formed .order .still i h) ring-of is some)
         still
         taken-same
         (λ r a e. row₂ r a ∙ row-other R i (13 + q) w i (13 + r) (λ z. e (omega arith)))
@@ -154,4 +154,4 @@ module _ (s : Settings) (memory : List ℕ) (m : Machine) (rep : RepresentsAt s 
         (ap (λ (v : List ℕ). getD v 2 0) (row₂ q g ∙ row-same R i (13 + q) w) ∙ f .flag ∙ ap (λ (k : List Letter). gapFlag (firsts k)) (sym here))
         (λ z. absurd (omega (arith, ap length z)))
         (subst (λ (k : List Letter). All (λ K. Live K → Right (tableIn memory) i (13 + q) (K .words)) k) (sym here)
-        (all-without (λ (K : Letter). Live K → Right (tableIn memory) i (13 + q) (K .words)) n ls (λ v. absurd (omega arith)) (rep .formed .letters i (13 + q) h (omega arith))))
+        (all-without (λ (K : Letter). Live K → Right (tableIn memory) i (13 + q) (K .words)) n ls (λ v. absurd (omega arith)) (rep .formed .order .letters i (13 + q) h (omega arith))))

@@ -6,16 +6,10 @@ use Prim.Native.Nat.{ℕ, _+_, _<_}
 use lib.Dec.{eqb}
 use lib.ListN.{length, getD, drop}
 use Rattle.layout.specs.Numbers.{headerWords, sourceTaskWord}
-use Rattle.sound.specs.Reading.{settingsIn, tableIn}
 use Rattle.letters.specs.Letter.{onto}
+use Rattle.machine.specs.Same.{Stands}
 use Rattle.machine.specs.Machine.{Letter, Machine, All}
 use Rattle.moves.specs.Moves.{liveOnes}
-
--- done or refused, these words of the memory stay: how many there are, the settings, the task table
-pub record Fixed (before after : List ℕ) : Type 0 where
-  pub size : length after ≡ length before
-  pub settings : settingsIn after ≡ settingsIn before
-  pub table : tableIn after ≡ tableIn before
 
 -- 'Source 0 takes the first letter; otherwise the first from that source': the letter is one that is asked for
 abbrev pub asked : ℕ → Letter → Bool
@@ -24,18 +18,6 @@ asked source L = eqb source 0 || eqb (getD (L .words) sourceTaskWord 0) source
 -- 'no such letter': none in task queue q of node i is asked for
 abbrev pub NoneAsked : Machine → ℕ → ℕ → ℕ → Type 0
 NoneAsked m i q source = All (λ L. asked source L ≡ false) (liveOnes (m .node i .letters (13 + q)))
-
--- a refusal: the machine is as before
-pub record Stays (before after : Machine) : Type 0 where
-  -- it is the same node's turn
-  pub turn : after .turn ≡ before .turn
-  -- the postmen's positions are the same
-  pub stage : (j : ℕ) → j < 6 → after .stage j ≡ before .stage j
-  pub other : (j : ℕ) → j < 6 → after .other j ≡ before .other j
-  -- every node has the same free list
-  pub free : (k : ℕ) → k < 6 → after .node k .free ≡ before .node k .free
-  -- and at every place the same letters, gaps included
-  pub letters : (k p : ℕ) → k < 6 → p < 77 → after .node k .letters p ≡ before .node k .letters p
 
 -- a receive that is done: a letter leaves task queue q of node i; the answer tells `from` and `long`, and out becomes `given`
 pub record Receives (before after : Machine) (i q source : ℕ) (from long : ℕ) (out given : List ℕ) : Type 0 where
@@ -63,8 +45,5 @@ pub record Receives (before after : Machine) (i q source : ℕ) (from long : ℕ
   pub free : (k : ℕ) → k < 6 → (k ≡ i → ⊥) → after .node k .free ≡ before .node k .free
   -- every other place of every node has the same letters
   pub letters : (k p : ℕ) → k < 6 → p < 77 → (k ≡ i → p ≡ 13 + q → ⊥) → after .node k .letters p ≡ before .node k .letters p
-  -- it is the same node's turn
-  pub turn : after .turn ≡ before .turn
-  -- the postmen's positions are the same
-  pub stage : (j : ℕ) → j < 6 → after .stage j ≡ before .stage j
-  pub other : (j : ℕ) → j < 6 → after .other j ≡ before .other j
+  -- whose turn it is and the postmen's positions are the same
+  pub stands : Stands before after

@@ -16,7 +16,7 @@ use Rattle.machine.specs.Core.{rowsOf, Core}
 use Rattle.machine.specs.Represents.{WellFormed, Flagged, RepresentsAt, Represents}
 use Rattle.machine.proofs.Back.{represents-sound-at, same-turn, same-stage, same-other, same-free, same-letters}
 use Rattle.moves.proofs.Memory.{with-long, with-word, with-settings, with-table}
-use Rattle.send_keeps.specs.Sends.{Fixed, Stands}
+use Rattle.machine.specs.Same.{Fixed, Stands}
 use Rattle.moves.proofs.Formed.{withNodes}
 
 module _ (s : Settings) (memory : List ℕ) (m : Machine) (rep : RepresentsAt s memory m) (i : ℕ) (h : i < 6) (l : List ℕ) (long : length l ≡ nodeSize s) where

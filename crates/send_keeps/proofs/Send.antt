@@ -44,7 +44,8 @@ use Rattle.moves.specs.Moves.{placed, liveOnes}
 use Rattle.moves.proofs.Queues.{length-counted}
 use Rattle.moves.proofs.Formed.{withNodes, at-here, at-other}
 use Rattle.moves.proofs.Kept.{send-task-kept, send-gap-kept, send-queue-kept}
-use Rattle.send_keeps.specs.Sends.{placeOf, newLetter, Fixed, Refuses, Sends, Change, Allowed}
+use Rattle.machine.specs.Same.{Fixed, Unchanged}
+use Rattle.send_keeps.specs.Sends.{placeOf, newLetter, Sends, Change, Allowed}
 use Rattle.send_keeps.proofs.Seats.{bound-some, task-is}
 use Rattle.send_keeps.proofs.Letter.{letter-long, right-task, right-send}
 use Rattle.send_keeps.proofs.After.{new-sound, new-fixed, new-stands, new-free, new-letters}
@@ -69,7 +70,7 @@ needs-one s r n h = let e = needs-enough s r n in some (needs s n) (s .b - 1) (o
     some zero j h = absurd (omega (arith, zero-mul j))
     some (suc k) j h = omega arith
 
-same-machine : (m : Machine) → Refuses m m
+same-machine : (m : Machine) → Unchanged m m
 same-machine m =
     record {
       stands = record { turn = refl; stage = λ j h. refl; other = λ j h. refl };
@@ -95,11 +96,11 @@ module _ (memory : List ℕ) (e : sound memory ≡ true) where
   Safe after = (sound after ≡ true) × Fixed memory after
 
   -- ---- refused
-  unchanged : Safe memory × Refuses m m
+  unchanged : Safe memory × Unchanged m m
   unchanged = ((e, same-words memory), same-machine m)
 
   quiet : (i : ℕ) → i < 6 → (l : List ℕ) → length l ≡ nodeSize s → RepresentsAt s (withNode s memory i l) (withNodes m (m .node))
-      → Safe (withNode s memory i l) × Refuses m (machineOf (withNode s memory i l))
+      → Safe (withNode s memory i l) × Unchanged m (machineOf (withNode s memory i l))
   quiet i h l long r = (
     (new-sound s memory m rep i h l long refl (m .node) r, new-fixed s memory m rep i h l long refl (m .node) r),
     record {
@@ -133,7 +134,7 @@ module _ (memory : List ℕ) (e : sound memory ≡ true) where
     -- ---- by the tests on the way
     by-tests : (goal : Goal)
         → (enough s l n ≡ true → hasRoom s l goal ≡ true → Safe (withNode s memory i (putIn s l goal ws)) × Sends m (machineOf (withNode s memory i (putIn s l goal ws))) i (placeOf goal) n ws)
-        → Safe (withNode s memory i (counted l (fullOf s goal))) × Refuses m (machineOf (withNode s memory i (counted l (fullOf s goal))))
+        → Safe (withNode s memory i (counted l (fullOf s goal))) × Unchanged m (machineOf (withNode s memory i (counted l (fullOf s goal))))
         → Good goal (postedIn s memory i goal ws)
     unfolding postedIn
     by-tests goal put full =
@@ -184,7 +185,7 @@ module _ (memory : List ℕ) (e : sound memory ≡ true) where
           put-sends (has-blocks y) (1 + k) (omega arith) (appended (sendKind s) (laidIn s l ws) (sendAt s k) (getD l 0 0)) (send-long s memory m rep i h ws k) (m .node i .letters (1 + k)) refl (λ z. refl)
           (send-queue-kept s memory m rep i k h g (λ z. away (sym z)) ws right (has-blocks y) (send-less s memory m rep i h k g room))
 
-      send-full : Safe (withNode s memory i (counted l (fullOf s (ToNode k)))) × Refuses m (machineOf (withNode s memory i (counted l (fullOf s (ToNode k)))))
+      send-full : Safe (withNode s memory i (counted l (fullOf s (ToNode k)))) × Unchanged m (machineOf (withNode s memory i (counted l (fullOf s (ToNode k)))))
       unfolding fullOf
       send-full = quiet i h (counted l (sendAt s k + 2)) (count-long (sendAt s k + 2)) (send-full-keeps s memory m rep i h k g)
 
@@ -207,7 +208,7 @@ module _ (memory : List ℕ) (e : sound memory ≡ true) where
           put-sends has (13 + q) (omega arith) l₃ (task-long s memory m rep i h ws q) (liveOnes ls) (live-twice ls) (λ z. absurd (omega arith))
           (send-gap-kept s memory m rep i q h g ws right bound has full gaps))
 
-      task-full : Safe (withNode s memory i (counted l (fullOf s (Task q)))) × Refuses m (machineOf (withNode s memory i (counted l (fullOf s (Task q)))))
+      task-full : Safe (withNode s memory i (counted l (fullOf s (Task q)))) × Unchanged m (machineOf (withNode s memory i (counted l (fullOf s (Task q)))))
       unfolding fullOf
       task-full = quiet i h (counted l (taskAt s q + 3)) (count-long (taskAt s q + 3)) (task-full-keeps s memory m rep i h q g)
 
@@ -308,7 +309,7 @@ module _ (memory : List ℕ) (e : sound memory ≡ true) where
         (λ bd. subst Says (sym (is-other bs bd)) (λ n d. absurd (let z : _≡_ {A = ℕ} 0 1 = cc in omega arith))))
         (λ bs. subst Says (sym (is-first bs)) (λ n d. absurd (let z : _≡_ {A = ℕ} 0 1 = cc in omega arith)))
 
-refuses : (m m′ : Machine) (i p : ℕ) (ws : List ℕ) (a : Sent) → Change m m′ i p ws a → ((n : ℕ) → a ≡ Done n → ⊥) → Refuses m m′
+refuses : (m m′ : Machine) (i p : ℕ) (ws : List ℕ) (a : Sent) → Change m m′ i p ws a → ((n : ℕ) → a ≡ Done n → ⊥) → Unchanged m m′
 refuses m m′ i p ws (Done n) c f = absurd (f n refl)
 refuses m m′ i p ws NotSound c f = c
 refuses m m′ i p ws SourceNotBound c f = c
@@ -348,7 +349,7 @@ module _ (memory : List ℕ) (source destination : ℕ) (body : List ℕ) where
       (sym (is-unsound e)) (same-machine (machineOf memory)))
 
   -- REFUSED: the machine stays
-  pub send-refused : ((n : ℕ) → send memory source destination body .answer ≡ Done n → ⊥) → Refuses (machineOf memory) (machineOf (send memory source destination body .memory))
+  pub send-refused : ((n : ℕ) → send memory source destination body .answer ≡ Done n → ⊥) → Unchanged (machineOf memory) (machineOf (send memory source destination body .memory))
   send-refused f =
       refuses (machineOf memory) (machineOf (send memory source destination body .memory)) (nodeOf (tableIn memory) source) goal-at (letterOf (headerOf (tableIn memory) source destination) body)
       (send memory source destination body .answer) send-changes f

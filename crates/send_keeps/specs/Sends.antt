@@ -7,11 +7,11 @@ use lib.ListN.{length, take, drop}
 use Rattle.settings.specs.declared.Settings.{Settings}
 use Rattle.tasks.specs.Table.{isBound}
 use Rattle.blocks.specs.Chain.{needs}
-use Rattle.sound.specs.Reading.{settingsIn, tableIn}
 use Rattle.posting.specs.declared.Goal.{Goal}
 use Rattle.posting.specs.declared.Goal.the-variants.{Task, Node}
 use Rattle.posting.specs.declared.Sent.{Sent}
 use Rattle.posting.specs.declared.Sent.the-variants.{Done, NotSound, SourceNotBound, DestinationNotBound, BodyTooLong, TooFewBlocks, QueueFull}
+use Rattle.machine.specs.Same.{Stands, Unchanged}
 use Rattle.machine.specs.Machine.{Letter, Machine}
 use Rattle.moves.specs.Moves.{liveOnes}
 
@@ -23,26 +23,6 @@ placeOf (Node k) = 1 + k
 -- the letter that a send adds: its blocks are the first n of the free list
 abbrev pub newLetter : List ℕ → ℕ → List ℕ → Letter
 newLetter free n words = record { chain = take n free; words = words }
-
--- done or refused, these words of the memory stay: how many there are, the settings, the task table
-pub record Fixed (memory memory′ : List ℕ) : Type 0 where
-  pub size : length memory′ ≡ length memory
-  pub settings : settingsIn memory′ ≡ settingsIn memory
-  pub table : tableIn memory′ ≡ tableIn memory
-
--- whose turn it is and the postmen's positions are the same
-pub record Stands (m m′ : Machine) : Type 0 where
-  pub turn : m′ .turn ≡ m .turn
-  pub stage : (j : ℕ) → j < 6 → m′ .stage j ≡ m .stage j
-  pub other : (j : ℕ) → j < 6 → m′ .other j ≡ m .other j
-
--- a send that is refused: nothing of the machine changes
-pub record Refuses (m m′ : Machine) : Type 0 where
-  pub stands : Stands m m′
-  -- every node's free list is the same
-  pub free : (k : ℕ) → k < 6 → m′ .node k .free ≡ m .node k .free
-  -- and so are the letters at every place
-  pub letters : (k p : ℕ) → k < 6 → p < 78 → m′ .node k .letters p ≡ m .node k .letters p
 
 -- a send that is done, of these words, from node i to the queue at place p of it, with n blocks
 pub record Sends (m m′ : Machine) (i p n : ℕ) (words : List ℕ) : Type 0 where
@@ -62,12 +42,12 @@ pub record Sends (m m′ : Machine) (i p n : ℕ) (words : List ℕ) : Type 0 wh
 -- what each answer says of the machine before and after
 abbrev pub Change : Machine → Machine → ℕ → ℕ → List ℕ → Sent → Type 0
 Change m m′ i p words (Done n) = Sends m m′ i p n words
-Change m m′ i p words NotSound = Refuses m m′
-Change m m′ i p words SourceNotBound = Refuses m m′
-Change m m′ i p words DestinationNotBound = Refuses m m′
-Change m m′ i p words BodyTooLong = Refuses m m′
-Change m m′ i p words TooFewBlocks = Refuses m m′
-Change m m′ i p words QueueFull = Refuses m m′
+Change m m′ i p words NotSound = Unchanged m m′
+Change m m′ i p words SourceNotBound = Unchanged m m′
+Change m m′ i p words DestinationNotBound = Unchanged m m′
+Change m m′ i p words BodyTooLong = Unchanged m m′
+Change m m′ i p words TooFewBlocks = Unchanged m m′
+Change m m′ i p words QueueFull = Unchanged m m′
 
 -- a send is done, with n blocks, between bound tasks alone, and with the blocks that its letter needs
 pub record Allowed (s : Settings) (table : List ℕ) (source destination n : ℕ) (words : List ℕ) : Type 0 where

@@ -1,56 +1,29 @@
 -- A chain that ends well, and what may be read of the letter in it. Assumes nothing.
-use mathlib.Core.Path.{_≡_, refl, sym, ap, _∙_}
-use mathlib.Core.Bool.{true, false, _&&_}
-use mathlib.Core.List.{List, [], _∷_}
-use Prim.Native.Nat.{ℕ, zero, suc, _+_, _-_, _*_, _/_, _%_, _≤_, _<_}
+use mathlib.Core.Path.{_≡_, sym, ap, _∙_}
+use mathlib.Core.Bool.{true, false}
+use mathlib.Core.List.{List}
+use Prim.Native.Nat.{ℕ, suc, _+_, _-_, _*_, _/_, _%_, _≤_, _<_}
 use native.Mathlib.Nat.{suc-mul, mul-le-mul-right, div-add-mod'}
 use native.Mathlib.Omega.{arith}
 use lib.Dec.{eqb, leb}
 use lib.ListN.{length, getD, List·getD-eq-default}
-use borrow.Author.Tests.{eqb-true, le-leb, lt-leb, leb-true}
-use Rattle.words.specs.Words.{all}
-use Rattle.words.proofs.Lists.{same?, and-true, and-false, all-head}
+use borrow.Author.Tests.{le-leb, lt-leb}
+use Rattle.words.proofs.Lists.{and-true, and-false}
 use Rattle.settings.specs.declared.Settings.{Settings}
 use Rattle.layout.specs.Asked.{Stretch}
-use Rattle.blocks.specs.Chain.{needs, link, list, chain, text, Within}
+use Rattle.blocks.specs.Chain.{needs, chain, text, Within}
 use Rattle.blocks.proofs.Chains.{length-text}
 use Rattle.blocks.proofs.Rows.{rows, within-in, text-rows, block-long}
 use Rattle.letters.specs.Letter.{word, letter}
 use Rattle.letters.specs.Asked.{Lies}
 use Rattle.letters.proofs.Rows.{needs-enough}
-use Rattle.letters.proofs.Laws.{word-text, word-letter}
-use Rattle.letters.proofs.Copies.{lies-less}
+use Rattle.letters.proofs.Laws.{word-text}
+use Rattle.sound.proofs.Gives.{all-within}
+use Rattle.sound.proofs.Right.{list-chain, chain-front, right-least, right-most, right-needs, right-chain, right-lies, right-letter, right-word}
 use Rattle.sound.specs.Letters.{chainFrom, endsWell, toldLength, wordsFrom, rightLength}
 use Rattle.visits.specs.Letters.{Whole, Readable}
 
-pub all-within : (m : ℕ) (l : List ℕ) → all (λ x. leb 1 x && leb x m) l ≡ true → Within m l
-unfolding Within
-all-within m [] e = tt
-all-within m (x ∷ l) e =
-    let h = all-head (λ x. leb 1 x && leb x m) x l e in
-    let w = and-true (leb 1 x) (leb x m) (h .0) in
-    ((leb-true 1 x (w .0), leb-true x m (w .1)), all-within m l (h .1))
-
 module _ (s : Settings) (l : List ℕ) where
-  -- a list up to a link 0 is a chain of its length
-  pub list-chain : (n b : ℕ) → chain s l (length (list s l n b)) b ≡ list s l n b
-  unfolding list chain
-  list-chain zero b = refl
-  list-chain (suc n) b = same? b 0 (λ z e. rw e) (λ z e. rw e (ap (λ (c : List ℕ). b ∷ c) (list-chain n (link s l b))))
-
-  -- the first k blocks of it
-  pub chain-front : (m n b k : ℕ) → k ≤ length (list s l n b) → Within m (list s l n b) → Within m (chain s l k b)
-  unfolding list chain Within
-  chain-front m n b zero h w = tt
-  chain-front m zero b (suc k) h w = absurd (omega arith)
-  chain-front m (suc n) b (suc k) h w =
-      same? b 0
-      (λ z e. absurd (let g : suc k ≤ 0 = rw e at h in omega arith))
-      (λ z e.
-      let g : suc k ≤ suc (length (list s l n (link s l b))) = rw e at h in
-      let v : ((1 ≤ b) × (b ≤ m)) × Within m (list s l n (link s l b)) = rw e at w in
-      (v .0, chain-front m n (link s l b) k (omega arith) (v .1)))
-
   pub ends-within : (b : ℕ) → endsWell s l b ≡ true → Within (s .m) (chainFrom s l b)
   unfolding endsWell
   ends-within b e = all-within (s .m) (chainFrom s l b) (and-true _ _ e .0)
@@ -64,7 +37,7 @@ module _ (s : Settings) (l : List ℕ) where
 -- ---- a chain that was visited to its end
 module _ (s : Settings) (l : List ℕ) (b n : ℕ) (w : Whole s l b n) where
   whole : chain s l n b ≡ chainFrom s l b
-  whole = ap (λ (k : ℕ). chain s l k b) (w .count) ∙ list-chain s l (s .m) b
+  whole = ap (λ (k : ℕ). chain s l k b) (w .count) ∙ sym (list-chain s l (s .m) b)
 
   -- too few blocks for a header: the length that is told is 0
   pub told-short : n < needs s 5 → false ≡ rightLength s l b
@@ -84,7 +57,7 @@ module _ (s : Settings) (l : List ℕ) (b n : ℕ) (w : Whole s l b n) where
     head-lies =
         let c = w .count in
         record {
-          walks = record { stretch = w .stretch; within = chain-front s l (s .m) (s .m) b (needs s 5) (omega arith) (ends-within s l b (w .ends)) };
+          walks = record { stretch = w .stretch; within = chain-front s l (s .m) (needs s 5) (length (chainFrom s l b)) b (omega arith) (rw (← list-chain s l (s .m) b) (ends-within s l b (w .ends))) };
           most = omega arith;
         }
 
@@ -110,31 +83,20 @@ module _ (s : Settings) (l : List ℕ) (b n : ℕ) (w : Whole s l b n) where
 -- ---- a letter whose length is right
 module _ (s : Settings) (l : List ℕ) (b : ℕ) (r : Readable s l b) where
   pub told-range : (5 ≤ toldLength s l b) × (toldLength s l b ≤ 1024) × (length (chainFrom s l b) ≡ needs s (toldLength s l b))
-  unfolding rightLength
   told-range =
-      let a = and-true (leb 5 (toldLength s l b)) _ (r .long) in
-      let c = and-true (leb (toldLength s l b) 1024) _ (a .1) in
-      (leb-true _ _ (a .0), leb-true _ _ (c .0), eqb-true _ _ (c .1))
+      (right-least s l (r .stretch) b (r .ends) (r .long), right-most s l (r .stretch) b (r .ends) (r .long), right-needs s l (r .stretch) b (r .ends) (r .long))
 
   pub its-chain : chain s l (needs s (toldLength s l b)) b ≡ chainFrom s l b
-  its-chain = ap (λ (k : ℕ). chain s l k b) (sym (told-range .2)) ∙ list-chain s l (s .m) b
+  its-chain = sym (right-chain s l (r .stretch) b (r .ends) (r .long))
 
   pub its-lies : Lies s l (toldLength s l b) b
-  its-lies =
-      record {
-        walks = record { stretch = r .stretch; within = rw its-chain (ends-within s l b (r .ends)) };
-        most = told-range .1;
-      }
+  its-lies = right-lies s l (r .stretch) b (r .ends) (r .long) (toldLength s l b) (omega arith)
 
   pub its-words : letter s l (toldLength s l b) b ≡ wordsFrom s l b
-  unfolding letter wordsFrom
-  its-words = rw its-chain
+  its-words = right-letter s l (r .stretch) b (r .ends) (r .long)
 
   pub head-word : (k : ℕ) → k < 5 → word s l b k ≡ getD (wordsFrom s l b) k 0
-  head-word k h =
-      let t = told-range .0 in
-      word-letter s l (r .stretch) (toldLength s l b) b k (its-lies .walks .within) (omega arith)
-      ∙ ap (λ (ws : List ℕ). getD ws k 0) its-words
+  head-word k h = right-word s l (r .stretch) b (r .ends) (r .long) k (omega (arith, told-range .0))
 
   pub word-lies : (k : ℕ) → k < 5 → Lies s l (k + 1) b
-  word-lies k h = let t = told-range .0 in lies-less s l (k + 1) (toldLength s l b) b (omega arith) its-lies
+  word-lies k h = right-lies s l (r .stretch) b (r .ends) (r .long) (k + 1) (omega (arith, told-range .0))
