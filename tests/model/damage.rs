@@ -69,6 +69,10 @@ pub const CERTAIN: &[Damage] = &[
     chains_share_a_tail,
     one_letter_twice,
     length_not_valid,
+    length_4,
+    length_5,
+    length_1_024,
+    length_1_025,
     length_not_valid_in_same_blocks,
     length_for_other_blocks,
     one_block_too_many,
@@ -537,6 +541,30 @@ fn length_not_valid(bench: &mut Bench) -> Option<()> {
     let length = bench.random.one_of([0, 1, 4, 1_025, u32::MAX]);
     bench.set_word(begun, LENGTH, length);
     Some(())
+}
+
+/// This length, in a letter whose chain has another number of blocks than it needs.
+fn length_in_other_blocks(bench: &mut Bench, length: usize) -> Option<()> {
+    let (set, memory) = (bench.set, bench.memory.clone());
+    let begun = bench.letter(|begun| chain(&memory, begun.node, begun.first).len() != set.blocks_needed(length))?;
+    bench.set_word(begun, LENGTH, length as u32);
+    Some(())
+}
+
+fn length_4(bench: &mut Bench) -> Option<()> {
+    length_in_other_blocks(bench, HEADER_WORDS - 1)
+}
+
+fn length_5(bench: &mut Bench) -> Option<()> {
+    length_in_other_blocks(bench, HEADER_WORDS)
+}
+
+fn length_1_024(bench: &mut Bench) -> Option<()> {
+    length_in_other_blocks(bench, GREATEST_LENGTH)
+}
+
+fn length_1_025(bench: &mut Bench) -> Option<()> {
+    length_in_other_blocks(bench, GREATEST_LENGTH + 1)
 }
 
 /// A length one too small or too great that needs as many blocks.

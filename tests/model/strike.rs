@@ -18,7 +18,8 @@ impl Striker {
 
     /// Damages the memory, lists it, makes calls that are refused, and repairs it.
     pub fn strike(&mut self, maker: &mut Maker, phase: &Phase) {
-        let calls = phase.some_steps(maker, 2);
+        let mut calls = phase.some_steps(maker, 2);
+        calls.push(phase.send(maker));
         let Some(damaged) = self.damaged(maker) else { return };
         let before = maker.player.memory.clone();
         overwrite(maker, &damaged);

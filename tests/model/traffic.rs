@@ -213,7 +213,8 @@ impl Phase {
         (0..maker.random.between(1, most)).map(|_| self.step(maker)).collect()
     }
 
-    fn send(&self, maker: &mut Maker) -> Step {
+    /// A send that suits the present memory.
+    pub fn send(&self, maker: &mut Maker) -> Step {
         let source = self.task(maker);
         let destination = match full_with_gaps(maker) {
             Some(task) if maker.random.percent(40) => task,
