@@ -102,7 +102,7 @@ module _ (s : Settings) where
 
   -- N
   unfoldable pub nodeSize : ℕ
-  nodeSize = 2 + 6 * (3 + s .s) + 6 * (3 + s .a) + 64 * (5 + s .t) + s .m * s .b
+  nodeSize = nodeHead + nodes * (queueHead + s .s) + nodes * (queueHead + s .a) + taskQueues * (taskHead + s .t) + s .m * s .b
 
   -- ---- the nodes' stretches in the memory
   -- node i's stretch starts at 536 + i·N

@@ -17,6 +17,7 @@ use Rattle.layout.specs.Places.{nodeSize, memorySize, node, withNode, sendAt, a
 use Rattle.blocks.specs.Chain.{needs, free, text}
 use Rattle.blocks.specs.Moves.{taken, givenBack}
 use Rattle.blocks.proofs.Moves.{length-taken}
+use Rattle.taking.proofs.Taken.{length-taken as length-taken-out}
 use Rattle.letters.specs.Letter.{written}
 use Rattle.letters.proofs.Rows.{length-laid}
 use Rattle.queues.specs.Queue.{sendKind, ackKind}
@@ -36,7 +37,6 @@ use Rattle.machine.proofs.Gives.{gives-stretch, gives-list}
 use Rattle.moves.specs.Moves.{putRow, moved, freed, placed, liveOnes, lettersWithout}
 use Rattle.moves.proofs.Rows.{moved-transit, moved-other, freed-transit, freed-other, row-same, row-other}
 use Rattle.moves.proofs.Core.{hold-keeps, resume-keeps}
-use Rattle.moves.proofs.Queues.{length-taken-out}
 use Rattle.moves.proofs.Memory.{node-with, with-with, with-long, with-node, rows-with}
 use Rattle.moves.proofs.Words.{take-row, take-words, write-row, write-words, give-words, give-row, appended-row, send-append, send-drop, ack-append, ack-drop, task-append-row, task-take-row, task-append-words, task-gap-words, task-take-words}
 use Rattle.moves.proofs.Trace.{trace-append, trace-give, trace-move, trace-write}

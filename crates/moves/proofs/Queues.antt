@@ -2,17 +2,15 @@
 --     append-keeps, full-keeps, drop-keeps     any queue, of whatever kind and on whatever node its row stands
 --     task-append, task-append-gap, task-append-full, task-take     a task queue, with its flag
 use mathlib.Core.Path.{_≡_, refl, ap, _∙_}
-use mathlib.Core.Bool.{cond}
 use mathlib.Core.List.{List, [], _∷_, _++_}
-use Prim.Native.Nat.{ℕ, zero, suc, _+_, _-_, _≤_, _<_}
+use Prim.Native.Nat.{ℕ, _+_, _-_, _≤_, _<_}
 use native.Mathlib.Omega.{arith}
-use lib.Dec.{eqb}
-use lib.ListN.{length, getD, set, length-set}
+use lib.ListN.{length, getD, length-set}
 use Rattle.words.proofs.Count.{down-zero}
 use Rattle.words.proofs.Lists.{put, both}
 use Rattle.settings.specs.declared.Settings.{Settings}
 use Rattle.queues.specs.declared.Kind.{Kind}
-use Rattle.queues.specs.Queue.{taskKind, items, itemAt, slotAt}
+use Rattle.queues.specs.Queue.{taskKind}
 use Rattle.queues.specs.Moves.{appended, dropped, counted}
 use Rattle.queues.specs.Items.{gapFlag}
 use Rattle.queues.proofs.Ring.{Ring, ring-added, ring-room, ring-full, ring-counted, ring-dropped}
@@ -20,8 +18,8 @@ use Rattle.queues.proofs.Tasks.{TaskRing, task-counted}
 use Rattle.queues.proofs.Views.{length-appended, length-dropped}
 use Rattle.gaps.specs.Close.{closed, cramped, roomy, taskAppended}
 use Rattle.gaps.proofs.Closed.{length-laid, append-room, append-gap, append-full}
-use Rattle.taking.specs.Take.{cleared, firstOut, out, flagged, takenOut}
-use Rattle.taking.proofs.Taken.{taken-task}
+use Rattle.taking.specs.Take.{takenOut}
+use Rattle.taking.proofs.Taken.{taken-task, length-taken}
 use Rattle.machine.specs.Machine.{Letter, gap, first, firsts, Node, All, many}
 use Rattle.machine.specs.Core.{seat, line, kind, Held, Core}
 use Rattle.machine.proofs.Letters.{all-at, all-append, many-append, firsts-append, length-firsts}
@@ -87,23 +85,6 @@ length-task-appended s l q x = length-appended (taskKind s) (roomy s l q) q x �
 pub length-counted : (l : List ℕ) (a : ℕ) → length (counted l a) ≡ length l
 unfolding counted
 length-counted l a = length-set l a _
-
-length-cleared : (k : Kind) (q n : ℕ) (l : List ℕ) → length (cleared k q n l) ≡ length l
-unfolding cleared
-length-cleared k q zero l = refl
-length-cleared k q (suc n) l =
-    both (λ (m : List ℕ). length m ≡ length l) (eqb (itemAt k l q 0) 0) (cleared k q n (dropped k l q)) l
-    (length-cleared k q n (dropped k l q) ∙ length-dropped k l q) refl
-
-pub length-taken-out : (s : Settings) (l : List ℕ) (q i : ℕ) → length (takenOut s l q i) ≡ length l
-unfolding flagged out firstOut
-length-taken-out s l q i =
-    let k : Kind = taskKind s in
-    let d : List ℕ = dropped k l q in
-    let c : List ℕ = cleared k q (items k d q) d in
-    let o : List ℕ = cond (eqb i 0) c (set l (slotAt k l q i) 0) in
-    length-set o (q + 2) _
-    ∙ both (λ (m : List ℕ). length m ≡ length l) (eqb i 0) c (set l (slotAt k l q i) 0) (length-cleared k q (items k d q) d ∙ length-dropped k l q) (length-set l (slotAt k l q i) 0)
 
 -- ---- task queue q of node i
 module _ (s : Settings) (R : ℕ → ℕ → List ℕ) (N : ℕ → Node) (core : Core s R N) (i q : ℕ) (h : i < 6) (g : q < 64) where
@@ -175,7 +156,7 @@ module _ (s : Settings) (R : ℕ → ℕ → List ℕ) (N : ℕ → Node) (core 
           (put N i (moved (N i) (13 + q) (lettersWithout n (N i .letters (13 + q))) (getD (N i .letters (13 + q)) n gap ∷ [])))
       task-take =
           let a = core .letters i (13 + q) h (omega arith) in
-          task-put (takenOut s v 0 n) (lettersWithout n ls) (getD ls n gap ∷ []) (length-taken-out s v 0 n) (task-take-flag .ring)
+          task-put (takenOut s v 0 n) (lettersWithout n ls) (getD ls n gap ∷ []) (length-taken s v 0 n) (task-take-flag .ring)
           (all-without (Held s (R i)) n ls (gap-held s (core .range) (R i)) a)
           (all-at (Held s (R i)) n ls is a, tt)
           (λ b. omega (arith, many-without b n ls is no-zero, ap (many b) none))

@@ -28,6 +28,7 @@ use Rattle.blocks.proofs.Chains.{Leads, textIn}
 use Rattle.blocks.proofs.Rows.{rows, text-rows}
 use Rattle.blocks.proofs.Laws.{takenRows, givenRows, taken-other, given-other}
 use Rattle.blocks.proofs.Moves.{length-taken, length-given, rows-taken, rows-given}
+use Rattle.taking.proofs.Taken.{length-taken as length-taken-out}
 use Rattle.letters.specs.Letter.{laid, written, copied}
 use Rattle.letters.proofs.Rows.{length-laid, rows-written}
 use Rattle.letters.proofs.Texts.{fill, fill-other}
@@ -328,7 +329,7 @@ module _ (s : Settings) (memory : List ℕ) (size : length memory ≡ memorySize
     pub task-take-row : (n : ℕ) → rowsOf s (withNode s memory i (takenOut s (node s memory i) (taskAt s q) n)) ≡ putRow (rowsOf s memory) i (13 + q) (takenOut s (rowsOf s memory i (13 + q)) 0 n)
     task-take-row n =
         ap (λ (a : ℕ). rowsOf s (withNode s memory i (takenOut s o a n))) (sym is-at)
-        ∙ row-with s memory size i h (takenOut s o at n) (queues.length-taken-out s o at n ∙ stretch i h .long) (13 + q) (takenOut s (R i (13 + q)) 0 n)
+        ∙ row-with s memory size i h (takenOut s o at n) (length-taken-out s o at n ∙ stretch i h .long) (13 + q) (takenOut s (R i (13 + q)) 0 n)
         (but-taken (width s) o (13 + q) s wide (but-none (width s) o (13 + q)) n)
 
     pub task-empty-row : rowsOf s (withNode s memory i (counted (node s memory i) (taskAt s q + emptyWord))) ≡ putRow (rowsOf s memory) i (13 + q) (counted (rowsOf s memory i (13 + q)) 4)

@@ -26,7 +26,7 @@ use Rattle.queues.proofs.Views.{length-appended, length-dropped}
 use Rattle.gaps.specs.Close.{taskAppended}
 use Rattle.gaps.proofs.Closed.{append-room, append-gap}
 use Rattle.taking.specs.Take.{takenOut}
-use Rattle.taking.proofs.Taken.{taken-task}
+use Rattle.taking.proofs.Taken.{taken-task, length-taken as length-taken-out}
 use Rattle.sound.specs.Letters.{fromTo, rightPlace}
 use Rattle.machine.proofs.Places.{seat-send, line-send, kind-send, seat-ack, line-ack, kind-ack}
 use Rattle.moves.proofs.Memory.{with-long, with-node, rows-with, rows-away}
@@ -42,7 +42,7 @@ use Rattle.moves.specs.Moves.{putRow, moved, placed, liveOnes, lettersWi
 use Rattle.moves.proofs.Rows.{row-same, row-other, moved-transit}
 use Rattle.moves.proofs.Core.{free-most}
 use Rattle.moves.proofs.Items.{firsts-live, all-live, firsts-without, all-without}
-use Rattle.moves.proofs.Queues.{length-task-appended, length-taken-out}
+use Rattle.moves.proofs.Queues.{length-task-appended}
 use Rattle.moves.proofs.Calls.{send-task-row, send-task-other, send-task-words, send-gap-words, send-queue-words, send-queue-other, receive-words, receive-row, acknowledge-words, hand-over}
 use Rattle.moves.proofs.Words.{give-row, appended-row, dropped-row, ack-drop}
 use Rattle.moves.proofs.Formed.{Fit, order-put, flags-put, working-put}

@@ -22,7 +22,8 @@ use Rattle.machine.proofs.Gives.{gives-stretch, gives-row}
 use Rattle.moves.specs.Moves.{putRow, moved, placed, lettersWithout}
 use Rattle.moves.proofs.Rows.{row-same, row-other, moved-transit}
 use Rattle.moves.proofs.Items.{all-without}
-use Rattle.moves.proofs.Queues.{length-counted, length-taken-out, task-take-flag, task-empty-flag}
+use Rattle.taking.proofs.Taken.{length-taken as length-taken-out}
+use Rattle.moves.proofs.Queues.{length-counted, task-take-flag, task-empty-flag}
 use Rattle.moves.proofs.Memory.{node-with, with-with, with-long}
 use Rattle.moves.proofs.Words.{give-row, task-take-row, task-take-words, task-empty-row, task-empty-words}
 use Rattle.moves.proofs.Calls.{receive-words}
