@@ -34,7 +34,8 @@ use Rattle.machine.proofs.Places.{seat-send, line-send, kind-send}
 use Rattle.blocks.proofs.Rows.{rows}
 use Rattle.layout.proofs.NodeRows.{start-send}
 use Rattle.machine.proofs.Gives.{gives-stretch, gives-list}
-use Rattle.moves.specs.Moves.{putRow, moved, freed, placed, liveOnes, lettersWithout}
+use Rattle.moves.specs.Letters.{liveOnes}
+use Rattle.moves.proofs.Made.{putRow, moved, freed, placed, lettersWithout}
 use Rattle.moves.proofs.Rows.{moved-transit, moved-other, freed-transit, freed-other, row-same, row-other}
 use Rattle.moves.proofs.Core.{hold-keeps, resume-keeps}
 use Rattle.moves.proofs.Memory.{node-with, with-with, with-long, with-node, rows-with}

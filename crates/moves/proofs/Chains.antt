@@ -20,7 +20,7 @@ use Rattle.letters.proofs.Texts.{fill, fill-other, fill-length, fill-leads, fil
 use Rattle.letters.proofs.Rows.{needs-enough}
 use Rattle.machine.specs.Machine.{Letter, first, Node, All, many}
 use Rattle.machine.specs.Core.{Held, Core}
-use Rattle.moves.specs.Moves.{freed}
+use Rattle.moves.proofs.Made.{freed}
 use Rattle.moves.proofs.Core.{free-most, block-long, chain-change}
 
 module _ (s : Settings) (R : ℕ → ℕ → List ℕ) (N : ℕ → Node) (core : Core s R N) (i : ℕ) (h : i < 6) where

@@ -19,7 +19,7 @@ use Rattle.machine.specs.Machine.{Letter, firsts, Node, All, many}
 use Rattle.machine.specs.Core.{seat, line, kind, Held, Core}
 use Rattle.machine.proofs.Letters.{all-same}
 use Rattle.machine.proofs.Places.{line-in}
-use Rattle.moves.specs.Moves.{putRow, moved, freed}
+use Rattle.moves.proofs.Made.{putRow, moved, freed}
 use Rattle.moves.proofs.Rows.{row-same, row-other, row-apart, row-long, place-one, moved-at, moved-transit, moved-other, freed-transit, freed-other, put-none, moved-none, freed-none}
 
 -- how often block b stands in a node

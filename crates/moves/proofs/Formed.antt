@@ -16,8 +16,7 @@ use Rattle.sound.specs.Queues.{taskOf}
 use Rattle.machine.specs.Machine.{Letter, firsts, Live, wordsOf, Node, Machine, All}
 use Rattle.machine.specs.Core.{rowsOf, Core}
 use Rattle.machine.specs.Represents.{Right, RightPosition, InOrder, Flagged, RepresentsAt}
-use Rattle.moves.specs.Moves.{placed}
-use Rattle.moves.specs.Working.{Working}
+use Rattle.moves.proofs.Made.{placed, Working}
 use Rattle.moves.proofs.Memory.{with-long, with-word, with-table, rows-away}
 
 -- the machine with other nodes

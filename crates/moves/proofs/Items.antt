@@ -12,7 +12,8 @@ use Rattle.words.proofs.Count.{hit-self}
 use Rattle.words.proofs.Lists.{split}
 use Rattle.queues.specs.Items.{live, afterZeroes, without}
 use Rattle.machine.specs.Machine.{Letter, gap, first, firsts, All, many}
-use Rattle.moves.specs.Moves.{liveOnes, afterGaps, lettersWithout}
+use Rattle.moves.specs.Letters.{liveOnes}
+use Rattle.moves.proofs.Made.{afterGaps, lettersWithout}
 
 -- a letter whose first block is 0, which is no block, has none
 gone : (b : ℕ) (L : Letter) → eqb (first L) 0 ≡ true → occurs 0 (L .chain) ≡ 0 → occurs b (L .chain) ≡ 0

@@ -26,8 +26,8 @@ use Rattle.machine.specs.Machine.{Letter, gap, first, firsts, Live, wordsOf, No
 use Rattle.machine.specs.Core.{Core}
 use Rattle.machine.specs.Represents.{Right, RepresentsAt}
 use Rattle.machine.proofs.Back.{represents-sound-at}
-use Rattle.moves.specs.Moves.{placed, liveOnes, lettersWithout}
-use Rattle.moves.specs.Working.{Working}
+use Rattle.moves.specs.Letters.{liveOnes}
+use Rattle.moves.proofs.Made.{placed, lettersWithout, Working}
 use Rattle.moves.proofs.Memory.{with-settings, set-rows, set-table}
 use Rattle.moves.proofs.Formed.{withNodes, Heads, begins-working, ends-working}
 use Rattle.moves.proofs.Works.{long₃, long₄, long₅, send-task-works, send-gap-works, send-queue-works, receive-works}

@@ -22,7 +22,7 @@ use Rattle.layout.proofs.MemoryRows.{stretch-fits, start-stretch, width-stretch
 use Rattle.blocks.proofs.Rows.{rows}
 use Rattle.sound.specs.Reading.{settingsIn, tableIn}
 use Rattle.machine.specs.Core.{rowsOf}
-use Rattle.moves.specs.Moves.{putRow}
+use Rattle.moves.proofs.Made.{putRow}
 
 -- a stretch starts behind the words before the stretches
 stretch-from : (s : Settings) (i : ℕ) → 536 ≤ nodeAt s i

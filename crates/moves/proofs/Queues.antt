@@ -25,7 +25,8 @@ use Rattle.machine.specs.Core.{seat, line, kind, Held, Core}
 use Rattle.machine.proofs.Letters.{all-at, all-append, many-append, firsts-append, length-firsts}
 use Rattle.machine.proofs.Places.{seat-task, line-task, kind-task}
 use Rattle.machine.proofs.Counts.{gap-held}
-use Rattle.moves.specs.Moves.{putRow, moved, liveOnes, lettersWithout}
+use Rattle.moves.specs.Letters.{liveOnes}
+use Rattle.moves.proofs.Made.{putRow, moved, lettersWithout}
 use Rattle.moves.proofs.Core.{many-most, queue-put, word-put}
 use Rattle.moves.proofs.Items.{firsts-live, all-live, many-live, firsts-without, all-without, many-without}
 

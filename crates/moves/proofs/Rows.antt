@@ -8,7 +8,7 @@ use Rattle.words.proofs.Lists.{put, put-same, put-other, same?}
 use Rattle.machine.specs.Machine.{Letter, Node}
 use Rattle.machine.specs.Core.{seat, line}
 use Rattle.machine.proofs.Places.{at-place, seat-send, line-send, seat-ack, line-ack, seat-task, line-task}
-use Rattle.moves.specs.Moves.{putRow, moved, freed}
+use Rattle.moves.proofs.Made.{putRow, moved, freed}
 
 module _ (R : ℕ → ℕ → List ℕ) (j q : ℕ) (w : List ℕ) where
   pub row-same : putRow R j q w j q ≡ w

@@ -4,7 +4,7 @@ use mathlib.Core.List.{List, []}
 use Prim.Native.Nat.{ℕ}
 use Rattle.words.proofs.Lists.{put, put-other, put-put, same?}
 use Rattle.machine.specs.Machine.{Letter, Node}
-use Rattle.moves.specs.Moves.{moved, freed, placed}
+use Rattle.moves.proofs.Made.{moved, freed, placed}
 
 module _ (g : ℕ → List Letter) (p : ℕ) (ls hs : List Letter) (n : p ≡ 77 → ⊥) (e : g 77 ≡ []) where
   in-out : put (put (put g 77 hs) p ls) 77 [] ≡ put g p ls

@@ -47,7 +47,8 @@ use Rattle.machine.specs.Machine.{Letter, gap, first, firsts, Node}
 use Rattle.machine.specs.Core.{rowsOf, seat, line, kind, Core}
 use Rattle.machine.proofs.Places.{at-place, seat-in, seat-send, line-send, kind-send, seat-ack, line-ack, kind-ack, line-task, kind-task}
 use Rattle.machine.proofs.Gives.{gives-stretch, gives-list, gives-letter}
-use Rattle.moves.specs.Moves.{putRow, moved, freed, liveOnes, lettersWithout}
+use Rattle.moves.specs.Letters.{liveOnes}
+use Rattle.moves.proofs.Made.{putRow, moved, freed, lettersWithout}
 use Rattle.moves.proofs.Core.{free-most, head-put}
 use Rattle.moves.proofs.Chains.{take-keeps, write-keeps, give-keeps, held-one, in-chain}
 use Rattle.moves.proofs.Queues.{append-keeps, full-keeps, drop-keeps, task-append, task-append-gap, task-full, task-take, task-empty}

@@ -38,7 +38,8 @@ use Rattle.machine.specs.Represents.{Right, InOrder, Flagged}
 use Rattle.blocks.proofs.Rows.{rows}
 use Rattle.machine.proofs.Letters.{all-append, firsts-append, length-firsts, first-in}
 use Rattle.machine.proofs.Gives.{gives-stretch, gives-row}
-use Rattle.moves.specs.Moves.{putRow, moved, placed, liveOnes, lettersWithout}
+use Rattle.moves.specs.Letters.{liveOnes}
+use Rattle.moves.proofs.Made.{putRow, moved, placed, lettersWithout, Working}
 use Rattle.moves.proofs.Rows.{row-same, row-other, moved-transit}
 use Rattle.moves.proofs.Core.{free-most}
 use Rattle.moves.proofs.Items.{firsts-live, all-live, firsts-without, all-without}
@@ -46,7 +47,6 @@ use Rattle.moves.proofs.Queues.{length-task-appended}
 use Rattle.moves.proofs.Calls.{send-task-row, send-task-other, send-task-words, send-gap-words, send-queue-words, send-queue-other, receive-words, receive-row, acknowledge-words, hand-over}
 use Rattle.moves.proofs.Words.{give-row, appended-row, dropped-row, ack-drop}
 use Rattle.moves.proofs.Formed.{Fit, order-put, flags-put, working-put}
-use Rattle.moves.specs.Working.{Working}
 
 -- a letter needs a block at least
 needs-some : (s : Settings) → InRange s → (n : ℕ) → 1 ≤ n → 1 ≤ needs s n

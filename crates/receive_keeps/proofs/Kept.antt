@@ -33,7 +33,7 @@ use Rattle.machine.proofs.Spelled.{first-from}
 use Rattle.machine.proofs.Gives.{gives-task, gives-source}
 use Rattle.machine.proofs.Sound.{sound-represents}
 use Rattle.machine.proofs.Back.{represents-sound-at, same-turn, same-stage, same-other, same-free, same-letters}
-use Rattle.moves.specs.Moves.{liveOnes}
+use Rattle.moves.specs.Letters.{liveOnes}
 use Rattle.moves.proofs.Memory.{with-long, with-settings, with-table}
 use Rattle.receive_keeps.specs.Receives.{asked, NoneAsked, Receives}
 use Rattle.machine.specs.Same.{Fixed, Unchanged}

@@ -8,7 +8,8 @@ use lib.ListN.{length, getD, set, take, drop}
 use borrow.Author.Tests.{ne-eqb}
 use Rattle.words.proofs.Lists.{split, same?}
 use Rattle.machine.specs.Machine.{Letter, gap, first, firsts, All}
-use Rattle.moves.specs.Moves.{liveOnes, afterGaps, lettersWithout}
+use Rattle.moves.specs.Letters.{liveOnes}
+use Rattle.moves.proofs.Made.{afterGaps, lettersWithout}
 
 ones-after : (ls : List Letter) → liveOnes (afterGaps ls) ≡ liveOnes ls
 unfolding liveOnes afterGaps

@@ -19,7 +19,7 @@ use Rattle.machine.specs.Machine.{Letter, gap, first, firsts, Live, Node, Machi
 use Rattle.machine.specs.Core.{rowsOf}
 use Rattle.machine.specs.Represents.{Right, RepresentsAt}
 use Rattle.machine.proofs.Gives.{gives-stretch, gives-row}
-use Rattle.moves.specs.Moves.{putRow, moved, placed, lettersWithout}
+use Rattle.moves.proofs.Made.{putRow, moved, placed, lettersWithout}
 use Rattle.moves.proofs.Rows.{row-same, row-other, moved-transit}
 use Rattle.moves.proofs.Items.{all-without}
 use Rattle.taking.proofs.Taken.{length-taken as length-taken-out}

@@ -9,7 +9,7 @@ use Rattle.layout.specs.Numbers.{headerWords, sourceTaskWord}
 use Rattle.letters.specs.Letter.{onto}
 use Rattle.machine.specs.Same.{Stands}
 use Rattle.machine.specs.Machine.{Letter, Machine, All}
-use Rattle.moves.specs.Moves.{liveOnes}
+use Rattle.moves.specs.Letters.{liveOnes}
 
 -- 'Source 0 takes the first letter; otherwise the first from that source': the letter is one that is asked for
 abbrev pub asked : ℕ → Letter → Bool

@@ -23,7 +23,7 @@ use Rattle.machine.specs.Core.{rowsOf, Core}
 use Rattle.machine.specs.Represents.{RepresentsAt}
 use Rattle.machine.proofs.Places.{seat-send, line-send, kind-send}
 use Rattle.machine.proofs.Gives.{gives-stretch, gives-row}
-use Rattle.moves.specs.Moves.{putRow}
+use Rattle.moves.proofs.Made.{putRow}
 use Rattle.moves.proofs.Rows.{row-same, row-other, row-node}
 use Rattle.moves.proofs.Core.{word-put}
 use Rattle.moves.proofs.Queues.{length-counted, task-word}

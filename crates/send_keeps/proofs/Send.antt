@@ -40,7 +40,8 @@ use Rattle.machine.specs.Spelled.{nodeFrom, machineOf}
 use Rattle.machine.specs.Represents.{Right, RepresentsAt}
 use Rattle.machine.proofs.Sound.{sound-represents}
 use Rattle.machine.proofs.Gives.{gives-stretch}
-use Rattle.moves.specs.Moves.{placed, liveOnes}
+use Rattle.moves.specs.Letters.{liveOnes}
+use Rattle.moves.proofs.Made.{placed}
 use Rattle.moves.proofs.Queues.{length-counted}
 use Rattle.moves.proofs.Formed.{withNodes, at-here, at-other}
 use Rattle.moves.proofs.Kept.{send-task-kept, send-gap-kept, send-queue-kept}

@@ -13,7 +13,7 @@ use Rattle.posting.specs.declared.Sent.{Sent}
 use Rattle.posting.specs.declared.Sent.the-variants.{Done, NotSound, SourceNotBound, DestinationNotBound, BodyTooLong, TooFewBlocks, QueueFull}
 use Rattle.machine.specs.Same.{Stands, Unchanged}
 use Rattle.machine.specs.Machine.{Letter, Machine}
-use Rattle.moves.specs.Moves.{liveOnes}
+use Rattle.moves.specs.Letters.{liveOnes}
 
 -- the place of the queue to which a letter goes: 1-6 a node's send queues, 13-76 its task queues
 abbrev pub placeOf : Goal → ℕ

@@ -1,11 +1,17 @@
--- What a move makes of rows and nodes: one row put anew; letters between a place and the transit place; blocks between the free list and it.
+-- What a move makes of rows and nodes: one row put anew; letters between a place and the transit place; blocks between the free list and it;
+-- and what holds between the moves of a call.
+use mathlib.Core.Path.{_≡_}
 use mathlib.Core.List.{List, [], _∷_}
 use mathlib.Core.Bool.{cond}
 use Prim.Native.Nat.{ℕ, zero, suc}
 use lib.Dec.{eqb}
-use lib.ListN.{set}
+use lib.ListN.{length, set}
 use Rattle.words.proofs.Lists.{put}
+use Rattle.settings.specs.declared.Settings.{Settings}
+use Rattle.layout.specs.Places.{memorySize}
 use Rattle.machine.specs.Machine.{Letter, gap, first, Node, transit}
+use Rattle.machine.specs.Core.{rowsOf, Core}
+use Rattle.machine.specs.Represents.{InOrder, Flagged}
 
 -- row q of node j put anew
 unfoldable pub putRow : (ℕ → ℕ → List ℕ) → ℕ → ℕ → List ℕ → ℕ → ℕ → List ℕ
@@ -23,11 +29,6 @@ freed N fr hs = record { free = fr; letters = put (N .letters) transit hs }
 unfoldable pub placed : Node → List ℕ → ℕ → List Letter → Node
 placed N fr p ls = record { free = fr; letters = put (N .letters) p ls }
 
--- the letters that are no gaps, in their order
-unfoldable pub liveOnes : List Letter → List Letter
-liveOnes [] = []
-liveOnes (L ∷ ls) = cond (eqb (first L) 0) (liveOnes ls) (L ∷ liveOnes ls)
-
 -- the letters behind the gaps at the front
 unfoldable pub afterGaps : List Letter → List Letter
 afterGaps [] = []
@@ -38,3 +39,10 @@ unfoldable pub lettersWithout : ℕ → List Letter → List Letter
 lettersWithout i [] = []
 lettersWithout zero (L ∷ ls) = afterGaps ls
 lettersWithout (suc i) (L ∷ ls) = L ∷ set ls i gap
+
+-- between the moves of a call: all that a machine is, but for whose turn it is and the postmen's positions
+pub record Working (s : Settings) (table memory : List ℕ) (N : ℕ → Node) : Type 0 where
+  pub size : length memory ≡ memorySize s
+  pub core : Core s (rowsOf s memory) N
+  pub order : InOrder table N
+  pub flags : Flagged (rowsOf s memory) N
