@@ -19,47 +19,16 @@ use Rattle.gaps.specs.Close.{taskAppended, taskAnswer}
 use Rattle.answers.specs.Numbers.{tooFewBlocks, queueFull, acknowledgeQueueFull}
 use Rattle.sound.specs.Reading.{tableIn, sendItems, ackItems}
 use Rattle.sound.specs.Letters.{chainFrom, toldLength, wordsFrom}
-use Rattle.turn.specs.declared.Stage.{Stage}
-use Rattle.turn.specs.declared.Stage.the-variants.{Done, Stopped}
-use Rattle.turn.specs.declared.Position.{Position}
-use Rattle.turn.specs.declared.Round.{Round}
+use Rattle.postman.specs.declared.Stage.{Stage}
+use Rattle.postman.specs.declared.Stage.the-variants.{Done, Stopped}
+use Rattle.postman.specs.declared.Position.{Position}
+use Rattle.postman.specs.declared.Round.{Round}
+use Rattle.postman.specs.Round.{Did, did, Post, post, stopped, oneLetter, blocksBack, stage, andThen, into}
 
--- the memory, and the turn so far
-pub record Post : Type 0 where
-  pub memory : List ℕ
-  pub round : Round
-
-abbrev pub post : List ℕ → Round → Post
-post m r = record { memory = m; round = r }
-
--- 'A stage that stops ends the turn there'
-abbrev pub onStage : Stage → Post → Post → Post
-onStage Done stop go = go
-onStage (Stopped n) stop go = stop
-
--- first p, and then, where it did not stop, f
-unfoldable pub andThen : Post → (List ℕ → Round → Post) → Post
-andThen p f = onStage (p .round .how) p (f (p .memory) (p .round))
-
--- first p, and then f
-unfoldable pub into : Post → (List ℕ → Round → Post) → Post
-into p f = f (p .memory) (p .round)
-
--- 'the stage becomes 1, 2 or 3': at node i, holding block x, with the refusal's number
-abbrev pub stopped : Round → ℕ → ℕ → ℕ → ℕ → Round
-stopped r stage i x number =
-    record { position = record { stage = stage; other = i; held = x }; letters = r .letters; back = r .back; how = Stopped number }
-
-abbrev pub oneLetter : Round → Round
-oneLetter r = record { position = r .position; letters = r .letters + 1; back = r .back; how = r .how }
-
-abbrev pub blocksBack : Round → ℕ → Round
-blocksBack r n = record { position = r .position; letters = r .letters; back = r .back + n; how = r .how }
-
--- what an append found: it went in, or the queue was full and its count has risen
-abbrev pub onAppend : Appended → Post → Post → Post
-onAppend Appended-done go stop = go
-onAppend Appended-full go stop = stop
+-- what an append found: it went in, or the queue was full, its count has risen, and that stops the stage with its number
+abbrev pub onAppend : Appended → ℕ → Stage
+onAppend Appended-done number = Done
+onAppend Appended-full number = Stopped number
 
 module _ (s : Settings) (j : ℕ) where
   -- ---- step 1: 'each item of acknowledge queue j, oldest first: drop it, give its chain back in j'
@@ -84,37 +53,48 @@ module _ (s : Settings) (j : ℕ) where
   abbrev pub firstOf : List ℕ → ℕ → ℕ
   firstOf m i = getD (sendItems s m i j) 0 0
 
-  -- stage 3: 'append the source's block to j's acknowledge queue for that node; drop the send item'
-  unfoldable pub handedOn : List ℕ → ℕ → Round → Post
-  handedOn m i r =
+  -- the block that begins the copy: the first of j's free list
+  abbrev pub spaceOf : List ℕ → ℕ
+  spaceOf m = getD (node s m j) firstFreeAt 0
+
+  -- stage 1: 'take space in j; copy'
+  unfoldable pub copiedIn : List ℕ → ℕ → Did
+  copiedIn m i =
       let x = firstOf m i in
-      let m₁ = withNode s m j (appended (ackKind s) (node s m j) (ackAt s i) x) in
-      onAppend (appendAnswer (ackKind s) (node s m j) (ackAt s i))
-      (post (withNode s m₁ i (dropped (sendKind s) (node s m₁ i) (sendAt s j))) r)
-      (post m₁ (stopped r 3 i 0 acknowledgeQueueFull))
+      let told = toldLength s (node s m i) x in
+      let m₁ = withNode s m j (taken s (node s m j) (needs s told)) in
+      cond (enough s (node s m j) (needs s told))
+      (did (copied s m₁ told i x j (spaceOf m)) Done)
+      (did (withNode s m j (counted (node s m j) roomAt)) (Stopped tooFewBlocks))
 
   -- the queue of the task that the letter begun by block c in node j is for
   abbrev pub queueFor : List ℕ → ℕ → ℕ
   queueFor m c = taskAt s (queueOf (tableIn m) (getD (wordsFrom s (node s m j) c) destinationTaskWord 0))
 
   -- stage 2: 'append to the task queue, closing gaps as above', the copy that block c begins
-  unfoldable pub delivered : List ℕ → ℕ → ℕ → Round → Post
-  delivered m i c r =
-      let m₁ = withNode s m j (taskAppended s (node s m j) (queueFor m c) c) in
-      onAppend (taskAnswer s (node s m j) (queueFor m c))
-      (handedOn m₁ i (oneLetter r))
-      (post m₁ (stopped r 2 i c queueFull))
+  unfoldable pub queued : List ℕ → ℕ → Did
+  queued m c =
+      did (withNode s m j (taskAppended s (node s m j) (queueFor m c) c)) (onAppend (taskAnswer s (node s m j) (queueFor m c)) queueFull)
 
-  -- stage 1: 'take space in j; copy'
+  -- stage 3: 'append the source's block to j's acknowledge queue for that node'
+  unfoldable pub acknowledged : List ℕ → ℕ → Did
+  acknowledged m i =
+      did (withNode s m j (appended (ackKind s) (node s m j) (ackAt s i) (firstOf m i)))
+      (onAppend (appendAnswer (ackKind s) (node s m j) (ackAt s i)) acknowledgeQueueFull)
+
+  -- 'drop the send item'
+  abbrev pub sendDropped : List ℕ → ℕ → List ℕ
+  sendDropped m i = withNode s m i (dropped (sendKind s) (node s m i) (sendAt s j))
+
+  -- from each stage on
+  unfoldable pub handedOn : List ℕ → ℕ → Round → Post
+  handedOn m i r = stage (acknowledged m i) (stopped r 3 i 0) (λ m′. post (sendDropped m′ i) r)
+
+  unfoldable pub delivered : List ℕ → ℕ → ℕ → Round → Post
+  delivered m i c r = stage (queued m c) (stopped r 2 i c) (λ m′. handedOn m′ i (oneLetter r))
+
   unfoldable pub carried : List ℕ → ℕ → Round → Post
-  carried m i r =
-      let x = firstOf m i in
-      let told = toldLength s (node s m i) x in
-      let c = getD (node s m j) firstFreeAt 0 in
-      let m₁ = withNode s m j (taken s (node s m j) (needs s told)) in
-      cond (enough s (node s m j) (needs s told))
-      (delivered (copied s m₁ told i x j c) i c r)
-      (post (withNode s m j (counted (node s m j) roomAt)) (stopped r 1 i 0 tooFewBlocks))
+  carried m i r = stage (copiedIn m i) (stopped r 1 i 0) (λ m′. delivered m′ i (spaceOf m) r)
 
   -- k letters of node i
   unfoldable pub carriedAll : ℕ → List ℕ → ℕ → Round → Post

@@ -1,0 +1,4 @@
+pub mod Position
+pub mod Round
+pub mod Steps
+pub mod Asked
