@@ -47,7 +47,7 @@ use Rattle.moves.proofs.Formed.{withNodes, at-here, at-other}
 use Rattle.moves.proofs.Kept.{send-task-kept, send-gap-kept, send-queue-kept}
 use Rattle.machine.specs.Same.{Fixed, Unchanged}
 use Rattle.send_keeps.specs.Sends.{placeOf, newLetter, Sends, Change, Allowed}
-use Rattle.send_keeps.proofs.Seats.{bound-some, task-is}
+use Rattle.moves.proofs.Seats.{bound-some, task-is}
 use Rattle.send_keeps.proofs.Letter.{letter-long, right-task, right-send}
 use Rattle.send_keeps.proofs.After.{new-sound, new-fixed, new-stands, new-free, new-letters}
 use Rattle.send_keeps.proofs.Refused.{room-keeps, task-full-keeps, send-full-keeps}

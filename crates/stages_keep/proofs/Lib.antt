@@ -1,0 +1,5 @@
+pub mod Standing
+pub mod Shown
+pub mod Way
+pub mod Going
+pub mod First
