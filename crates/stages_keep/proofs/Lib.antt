@@ -6,3 +6,5 @@ pub mod First
 pub mod Second
 pub mod Third
 pub mod Collect
+pub mod Went
+pub mod Laws
