@@ -91,7 +91,7 @@ module _ (s : Settings) (m : List ℕ) (j i : ℕ) (h : j < 6) (g : i < 6) (M : 
   other₂ : (k p : ℕ) → (k ≡ j → p ≡ 7 + i → ⊥) → N₂ k .letters p ≡ N k .letters p
   other₂ = at-other N j (K .chain ++ N j .free) (7 + i) rest
 
-  goes : Goes s t m₂ j atRest M count (length rest)
+  goes : Goes s t m₂ j atRest M [] count (length rest)
   goes =
       record {
         after = withPosition M j atRest N₂;
@@ -102,11 +102,11 @@ module _ (s : Settings) (m : List ℕ) (j i : ℕ) (h : j < 6) (g : i < 6) (M : 
               here = here-rest M j N₂ (other₂ j 0 (λ u v. omega arith) ∙ empty);
             };
         same = front .table;
-        way = still-way t (at-m .mid .table) M j atRest N₂ (λ k q a b. other₂ k (13 + q) (λ u v. omega arith)) (λ x k a b. other₂ x (1 + k) (λ u v. omega arith)) (λ z. omega (arith, stage-0)) (λ z. omega arith);
+        way = still-way t M j h atRest N₂ (λ k q a b. other₂ k (13 + q) (λ u v. omega arith)) (λ x k a b. other₂ x (1 + k) (λ u v. omega arith)) (λ z. omega (arith, stage-0)) (λ z. omega arith);
         turn = refl;
         left = ap length (at-here N j (K .chain ++ N j .free) (7 + i) rest);
       }
 
   -- STEP 1, ONE ITEM
-  pub collect-goes : (r : Round) → Goes s (tableIn m) (collected s j m i r .memory) j atRest M (λ X. length (X .node j .letters (7 + i))) (length rest)
-  collect-goes r = subst (λ (x : List ℕ). Goes s t x j atRest M count (length rest)) (sym (memory-is r)) goes
+  pub collect-goes : (r : Round) → Goes s (tableIn m) (collected s j m i r .memory) j atRest M [] (λ X. length (X .node j .letters (7 + i))) (length rest)
+  collect-goes r = subst (λ (x : List ℕ). Goes s t x j atRest M [] count (length rest)) (sym (memory-is r)) goes

@@ -98,7 +98,7 @@ module _ (s : Settings) (m : List ℕ) (j i : ℕ) (h : j < 6) (g : i < 6) (M : 
   unfolding copiedIn
   short-is z = rw (enough-is, z)
 
-  short-goes : Goes s t m₀ j (at 1 i 0) M count (length (N i .letters (1 + j)))
+  short-goes : Goes s t m₀ j (at 1 i 0) M [] count (length (N i .letters (1 + j)))
   short-goes =
       let f = front-with s m (wk .size) j h (counted (node s m j) 1) long₀ in
       record {
@@ -109,7 +109,7 @@ module _ (s : Settings) (m : List ℕ) (j i : ℕ) (h : j < 6) (g : i < 6) (M : 
               here = here-at M j N i g apart some-left 1 (omega arith) (omega arith) (λ z. omega arith) empty;
             };
         same = f .table;
-        way = still-way t (at-m .mid .table) M j (at 1 i 0) N (λ k q a b. refl) (λ i k a b. refl) (λ z. omega (arith, stage-0)) (λ z. omega arith);
+        way = still-way t M j h (at 1 i 0) N (λ k q a b. refl) (λ i k a b. refl) (λ z. omega (arith, stage-0)) (λ z. omega arith);
         turn = refl;
         left = refl;
       }
@@ -168,7 +168,7 @@ module _ (s : Settings) (m : List ℕ) (j i : ℕ) (h : j < 6) (g : i < 6) (M : 
     left₂ : N₂ i .letters (1 + j) ≡ K ∷ rest
     left₂ = other₂ i (1 + j) (λ u v. omega arith) ∙ e
 
-    done-goes : Goes s t m₂ j (at 2 i (first L)) M count (length (N i .letters (1 + j)))
+    done-goes : Goes s t m₂ j (at 2 i (first L)) M [] count (length (N i .letters (1 + j)))
     done-goes =
         let r = right-hand t (at-m .mid .table) i j h (K .words) ok in
         let f = front-with s m (wk .size) j h l₂ (hold-long s t m N wk j h (K .words) r has empty) in
@@ -181,16 +181,16 @@ module _ (s : Settings) (m : List ℕ) (j i : ℕ) (h : j < 6) (g : i < 6) (M : 
                 here = here-hold M j N₂ i g apart (rw left₂ (omega arith)) L hand₂ (ap (λ (ls : List Letter). take 1 (map wordsOf ls)) (sym left₂));
               };
           same = f .table;
-          way = still-way t (at-m .mid .table) M j (at 2 i (first L)) N₂ (λ k q a b. other₂ k (13 + q) (λ u v. omega arith)) (λ i k a b. other₂ i (1 + k) (λ u v. omega arith)) (λ z. omega (arith, stage-0)) (λ z. omega arith);
+          way = still-way t M j h (at 2 i (first L)) N₂ (λ k q a b. other₂ k (13 + q) (λ u v. omega arith)) (λ i k a b. other₂ i (1 + k) (λ u v. omega arith)) (λ z. omega (arith, stage-0)) (λ z. omega arith);
           turn = refl;
           left = ap length (other₂ i (1 + j) (λ u v. omega arith));
         }
 
   -- STAGE 1
-  pub first-goes : Goes s (tableIn m) (copiedIn s j m i .memory) j (onStage (copiedIn s j m i .how) (at 1 i 0) (at 2 i (spaceOf s j m))) M (λ X. length (X .node i .letters (1 + j))) (length (M .node i .letters (1 + j)))
+  pub first-goes : Goes s (tableIn m) (copiedIn s j m i .memory) j (onStage (copiedIn s j m i .how) (at 1 i 0) (at 2 i (spaceOf s j m))) M [] (λ X. length (X .node i .letters (1 + j))) (length (M .node i .letters (1 + j)))
   first-goes =
-      let P : Did → Type 0 = λ d. Goes s t (d .memory) j (onStage (d .how) (at 1 i 0) (at 2 i (spaceOf s j m))) M count (length (N i .letters (1 + j))) in
+      let P : Did → Type 0 = λ d. Goes s t (d .memory) j (onStage (d .how) (at 1 i 0) (at 2 i (spaceOf s j m))) M [] count (length (N i .letters (1 + j))) in
       split (leb n (length (N j .free)))
       (λ z. let has = leb-true n (length (N j .free)) z in
-      subst P (done-is has z) (subst (λ (x : ℕ). Goes s t (m₂ has) j (at 2 i x) M count (length (N i .letters (1 + j)))) (first-l has) (done-goes has)))
+      subst P (done-is has z) (subst (λ (x : ℕ). Goes s t (m₂ has) j (at 2 i x) M [] count (length (N i .letters (1 + j)))) (first-l has) (done-goes has)))
       (λ z. subst P (short-is z) short-goes)

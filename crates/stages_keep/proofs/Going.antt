@@ -19,48 +19,48 @@ use Rattle.sound.specs.Letters.{rightHeader, fromTo, rightPlace}
 use Rattle.machine.specs.Machine.{Letter, wordsOf, Node, Machine}
 use Rattle.machine.specs.Represents.{Right}
 use Rattle.moves.specs.Letters.{liveOnes}
-use Rattle.moves.specs.Way.{toCarry, SameWay}
+use Rattle.moves.specs.Way.{toCarry, Carries}
 use Rattle.moves.proofs.Seats.{bound-some, task-is}
 use Rattle.postman.specs.declared.Position.{Position}
 use Rattle.stages_keep.proofs.Standing.{Midway, Here, withPosition}
-use Rattle.stages_keep.proofs.Way.{carry-stage, carry-same, same-way}
+use Rattle.stages_keep.proofs.Way.{carry-stage, carry-same, carries-none}
 
 -- the memory, with node j's postman at position p, represents M
 pub record Is (s : Settings) (m : List ℕ) (j : ℕ) (p : Position) (M : Machine) : Type 0 where
   pub mid : Midway s m j M
   pub here : Here M j p
 
--- from M on: the memory m with him at position p represents a machine with the same letters on the way, and n of what f counts
-pub record Goes (s : Settings) (table m : List ℕ) (j : ℕ) (p : Position) (M : Machine) (f : Machine → ℕ) (n : ℕ) : Type 0 where
+-- from M on: the memory m with him at position p represents a machine after he carried those letters, and n of what f counts
+pub record Goes (s : Settings) (table m : List ℕ) (j : ℕ) (p : Position) (M : Machine) (news : List (List ℕ)) (f : Machine → ℕ) (n : ℕ) : Type 0 where
   pub after : Machine
   pub is : Is s m j p after
   pub same : tableIn m ≡ table
-  pub way : SameWay table M after
+  pub way : Carries table j M after news
   pub turn : after .turn ≡ M .turn
   pub left : f after ≡ n
 
 -- ---- a step that changes no task queue and no send queue
-module _ (table : List ℕ) (right : rightTable table ≡ true) (M : Machine) (j : ℕ) (p : Position) (N : ℕ → Node)
+module _ (table : List ℕ) (M : Machine) (j : ℕ) (h : j < 6) (p : Position) (N : ℕ → Node)
     (tasks : (k q : ℕ) → k < 6 → q < 64 → N k .letters (13 + q) ≡ M .node k .letters (13 + q))
     (sends : (i k : ℕ) → i < 6 → k < 6 → N i .letters (1 + k) ≡ M .node i .letters (1 + k)) where
   abbrev M′ : Machine
   M′ = withPosition M j p N
 
-  way-of : ((i : ℕ) → i < 6 → j < 6 → toCarry M′ i j ≡ toCarry M i j) → SameWay table M (withPosition M j p N)
+  way-of : ((i : ℕ) → i < 6 → j < 6 → toCarry M′ i j ≡ toCarry M i j) → Carries table j M (withPosition M j p N) []
   way-of f =
-      same-way table right M M′
+      carries-none table j M M′ h
       (λ k q a b. ap liveOnes (tasks k q a b))
       (λ i k a b. same? k j
       (λ e t. subst (λ (x : ℕ). toCarry M′ i x ≡ toCarry M i x) (sym e) (f i a (rw (← e) b)))
       (λ e t. carry-same M M′ i k (put-other (M .stage) j (p .stage) k e) (put-other (M .other) j (p .other) k e) (sends i k a b)))
 
   -- and leads to no stage 3 and from none
-  pub still-way : (M .stage j ≡ 3 → ⊥) → (p .stage ≡ 3 → ⊥) → SameWay table M (withPosition M j p N)
+  pub still-way : (M .stage j ≡ 3 → ⊥) → (p .stage ≡ 3 → ⊥) → Carries table j M (withPosition M j p N) []
   still-way x y =
       way-of (λ i a b. carry-stage M′ i j (λ z. y (sym (put-same (M .stage) j (p .stage)) ∙ z)) ∙ sends i j a b ∙ sym (carry-stage M i j x))
 
   -- and leaves the position
-  pub stop-way : M .stage j ≡ p .stage → M .other j ≡ p .other → SameWay table M (withPosition M j p N)
+  pub stop-way : M .stage j ≡ p .stage → M .other j ≡ p .other → Carries table j M (withPosition M j p N) []
   stop-way x y =
       way-of (λ i a b. carry-same M M′ i j (put-same (M .stage) j (p .stage) ∙ sym x) (put-same (M .other) j (p .other) ∙ sym y) (sends i j a b))
 

@@ -140,8 +140,8 @@ module _ (s : Settings) (j : ℕ) where
       (λ n z. absurd (not-done (sym (rw z at e))))
 
 -- the postman is at rest
-rested : (s : Settings) (table : List ℕ) (p : Post) (j : ℕ) → j < 6 → (M : Machine) (f : Machine → ℕ) (n : ℕ) → (w : Went s table p j M f n) → p .round .how ≡ Done → Is s (p .memory) j atRest (w .after)
-rested s table p j h M f n w d = subst (λ (x : Position). Is s (p .memory) j x (w .after)) (on-rest (p .round .how) d) (w .is)
+rested : (s : Settings) (table : List ℕ) (p : Post) (j : ℕ) → j < 6 → (M : Machine) (r : Round) (f : Machine → ℕ) (n : ℕ) → (w : Went s table p j M r f n) → p .round .how ≡ Done → Is s (p .memory) j atRest (w .after)
+rested s table p j h M r f n w d = subst (λ (x : Position). Is s (p .memory) j x (w .after)) (on-rest (p .round .how) d) (w .is)
   where
     on-rest : (h : Stage) → h ≡ Done → onStage h (p .round .position) atRest ≡ atRest
     on-rest h e = rw e
@@ -152,7 +152,7 @@ module _ (s : Settings) (m : List ℕ) (j i : ℕ) (r : Round) where
       let N = M s m j i 3 0 st (omega arith) in
       let n : ℕ = length (N .node i .letters (1 + j)) - 1 in
       let w = handed-went s (tableIn m) j (st .postman) i (other-in s m j 3 i 0 st) m N r n refl (stands-is s m j (at 3 i 0) st) (handed-how s j m i r d) (left s m j i 3 0 st (omega arith)) in
-      is-stands s (handedOn s j m i r .memory) j atRest (st .postman) (w .after) (rested s (tableIn m) (handedOn s j m i r) j (st .postman) N (λ X. length (X .node i .letters (1 + j))) n w d)
+      is-stands s (handedOn s j m i r .memory) j atRest (st .postman) (w .after) (rested s (tableIn m) (handedOn s j m i r) j (st .postman) N r (λ X. length (X .node i .letters (1 + j))) n w d)
 
 module _ (s : Settings) (m : List ℕ) (j i k : ℕ) (r : Round) where
   pub carried-next : Waits s m j i (k + 1) → carried s j m i r .round .how ≡ Done → Waits s (carried s j m i r .memory) j i k
@@ -163,7 +163,7 @@ module _ (s : Settings) (m : List ℕ) (j i k : ℕ) (r : Round) where
       let n : ℕ = length (N .node i .letters (1 + j)) - 1 in
       let l = waits-is s m j atRest (st .postman) N is i (v .there) in
       let w = carried-went s (tableIn m) j (st .postman) i (v .there) m N r n refl is (carried-how s j m i r d) (omega (arith, l, v .letters)) in
-      let is′ = rested s (tableIn m) (carried s j m i r) j (st .postman) N (λ X. length (X .node i .letters (1 + j))) n w d in
+      let is′ = rested s (tableIn m) (carried s j m i r) j (st .postman) N r (λ X. length (X .node i .letters (1 + j))) n w d in
       record {
         stands = is-stands s (carried s j m i r .memory) j atRest (st .postman) (w .after) is′;
         there = v .there;
@@ -176,7 +176,7 @@ module _ (s : Settings) (m : List ℕ) (j i k : ℕ) (r : Round) where
       let N = machineAt s m j atRest st in
       let is = stands-is s m j atRest st in
       let w = carried-all-went s (tableIn m) j (st .postman) i (v .there) k m N r refl is e (omega (arith, waits-is s m j atRest (st .postman) N is i (v .there), v .letters)) in
-      is-stands s (carriedAll s j k m i r .memory) j atRest (st .postman) (w .after) (rested s (tableIn m) (carriedAll s j k m i r) j (st .postman) N (λ X. 0) 0 w d)
+      is-stands s (carriedAll s j k m i r .memory) j atRest (st .postman) (w .after) (rested s (tableIn m) (carriedAll s j k m i r) j (st .postman) N r (λ X. 0) 0 w d)
 
   pub collected-next : Owes s m j i (k + 1) → Owes s (collected s j m i r .memory) j i k
   collected-next v =
@@ -198,4 +198,4 @@ delivered-rest s m j i c r st d =
     let N = M s m j i 2 c st (omega arith) in
     let n : ℕ = length (N .node i .letters (1 + j)) - 1 in
     let w = delivered-went s (tableIn m) j (st .postman) i (other-in s m j 2 i c st) m N c r n refl (stands-is s m j (at 2 i c) st) (delivered-how s j m i c r d) (left s m j i 2 c st (omega arith)) in
-    is-stands s (delivered s j m i c r .memory) j atRest (st .postman) (w .after) (rested s (tableIn m) (delivered s j m i c r) j (st .postman) N (λ X. length (X .node i .letters (1 + j))) n w d)
+    is-stands s (delivered s j m i c r .memory) j atRest (st .postman) (w .after) (rested s (tableIn m) (delivered s j m i c r) j (st .postman) N r (λ X. length (X .node i .letters (1 + j))) n w d)

@@ -24,7 +24,6 @@ use Rattle.machine.specs.Represents.{Right}
 use Rattle.machine.proofs.Letters.{length-firsts, first-in}
 use Rattle.machine.proofs.Gives.{gives-stretch, gives-flagged, gives-among}
 use Rattle.moves.specs.Letters.{liveOnes}
-use Rattle.moves.specs.Way.{SameWay}
 use Rattle.moves.proofs.Made.{placed, Working}
 use Rattle.moves.proofs.Queues.{length-task-appended}
 use Rattle.moves.proofs.Rising.{task-full-works}
@@ -35,7 +34,7 @@ use Rattle.postman.specs.Round.{Did, did, onStage}
 use Rattle.postman.specs.Steps.{onAppend, queueFor, queued}
 use Rattle.stages_keep.proofs.Standing.{Midway, Here, Front, Beside, withPosition, front-with, goes-midway, here-at, here-hold}
 use Rattle.stages_keep.proofs.Shown.{words-shown, first-live, first-right}
-use Rattle.stages_keep.proofs.Way.{deliver-way}
+use Rattle.stages_keep.proofs.Way.{carries-one}
 use Rattle.stages_keep.proofs.Going.{Is, Goes, stop-way, source-node, queue-in, queue-bound, right-queue}
 use Rattle.moves.proofs.Items.{live-more, live-twice}
 
@@ -140,7 +139,7 @@ module _ (s : Settings) (m : List ℕ) (j i c : ℕ) (h : j < 6) (g : i < 6) (M 
     sends₁ : (k p : ℕ) → k < 6 → p < 6 → N₁ k .letters (1 + p) ≡ N k .letters (1 + p)
     sends₁ k p a b = other₁ k (1 + p) (λ u v. omega arith) (λ u v. omega arith)
 
-    done-goes : Goes s t m₁ j (at 3 i 0) M count (length (N i .letters (1 + j)))
+    done-goes : Goes s t m₁ j (at 3 i 0) M (K .words ∷ []) count (length (N i .letters (1 + j)))
     done-goes =
         record {
           after = withPosition M j (at 3 i 0) N₁;
@@ -152,7 +151,7 @@ module _ (s : Settings) (m : List ℕ) (j i c : ℕ) (h : j < 6) (g : i < 6) (M 
               };
           same = front .table;
           way =
-              deliver-way t (at-m .mid .table) M (withPosition M j (at 3 i 0) N₁) i j q g L K rest copy (source-node t (at-m .mid .table) i j h (K .words) ok) refl e
+              carries-one t M (withPosition M j (at 3 i 0) N₁) i j q g h L K rest copy (source-node t (at-m .mid .table) i j h (K .words) ok) refl e
               (λ z. omega (arith, stage-2)) (put-same (M .stage) j 3) (put-same (M .other) j i)
               (λ k a n. put-other (M .stage) j 3 k n) (λ k a n. put-other (M .other) j i k n)
               sends₁ (ap liveOnes here₁ ∙ more)
@@ -162,7 +161,7 @@ module _ (s : Settings) (m : List ℕ) (j i c : ℕ) (h : j < 6) (g : i < 6) (M 
         }
 
   -- ---- the queue was full
-  full-goes : length ls ≡ s .t → gapFlag (firsts ls) ≡ 0 → Goes s t m₁ j (at 2 i c) M count (length (N i .letters (1 + j)))
+  full-goes : length ls ≡ s .t → gapFlag (firsts ls) ≡ 0 → Goes s t m₁ j (at 2 i c) M [] count (length (N i .letters (1 + j)))
   full-goes full gaps =
       record {
         after = withPosition M j (at 2 i c) N;
@@ -173,15 +172,15 @@ module _ (s : Settings) (m : List ℕ) (j i c : ℕ) (h : j < 6) (g : i < 6) (M 
                   (here-hold M j N i g apart some-left L one (ap (λ (w : List ℕ). w ∷ []) copy ∙ ap (λ (x : List Letter). take 1 (map wordsOf x)) (sym e)));
             };
         same = front .table;
-        way = stop-way t (at-m .mid .table) M j (at 2 i c) N (λ k q a b. refl) (λ i k a b. refl) stage-2 (at-m .here .other);
+        way = stop-way t M j h (at 2 i c) N (λ k q a b. refl) (λ i k a b. refl) stage-2 (at-m .here .other);
         turn = refl;
         left = refl;
       }
 
   -- STAGE 2
-  pub second-goes : Goes s (tableIn m) (queued s j m c .memory) j (onStage (queued s j m c .how) (at 2 i c) (at 3 i 0)) M (λ X. length (X .node i .letters (1 + j))) (length (M .node i .letters (1 + j)))
+  pub second-goes : Goes s (tableIn m) (queued s j m c .memory) j (onStage (queued s j m c .how) (at 2 i c) (at 3 i 0)) M (onStage (queued s j m c .how) [] (K .words ∷ [])) (λ X. length (X .node i .letters (1 + j))) (length (M .node i .letters (1 + j)))
   second-goes =
-      let P : Did → Type 0 = λ d. Goes s t (d .memory) j (onStage (d .how) (at 2 i c) (at 3 i 0)) M count (length (N i .letters (1 + j))) in
+      let P : Did → Type 0 = λ d. Goes s t (d .memory) j (onStage (d .how) (at 2 i c) (at 3 i 0)) M (onStage (d .how) [] (K .words ∷ [])) count (length (N i .letters (1 + j))) in
       append-cases s (node s m j) (taskAt s q) (firsts ls) ring
       (λ z. subst P (queued-is Appended-done (append-room s (node s m j) (taskAt s q) (firsts ls) ring (first L) begins z .1))
       (done-goes (ls ++ L ∷ []) (resume-works s t m N wk j q h q-in L one begins right-l bound (omega (arith, length-firsts ls))) (live-more ls L begins)))

@@ -32,7 +32,7 @@ use Rattle.postman.specs.Round.{Did, did, onStage}
 use Rattle.postman.specs.Steps.{onAppend, firstOf, acknowledged, sendDropped}
 use Rattle.stages_keep.proofs.Standing.{Front, withPosition, front-with, front-then, goes-midway, here-rest, here-at}
 use Rattle.stages_keep.proofs.Shown.{send-shown}
-use Rattle.stages_keep.proofs.Way.{carry-stage, carry-away, carry-over, carry-same, same-way}
+use Rattle.stages_keep.proofs.Way.{carry-stage, carry-away, carry-over, carry-same, carries-none}
 use Rattle.stages_keep.proofs.Going.{Is, Goes, stop-way}
 
 -- a stage that is done has not stopped
@@ -102,7 +102,7 @@ module _ (s : Settings) (m : List ℕ) (j i : ℕ) (h : j < 6) (g : i < 6) (M : 
   full-how z = rw (items-is, le-ltb (length (N i .letters (7 + j))) (s .a) z)
 
   -- ---- the queue was full
-  full-goes : s .a ≤ length (N i .letters (7 + j)) → Goes s t m₁ j (at 3 i 0) M count (length (N i .letters (1 + j)))
+  full-goes : s .a ≤ length (N i .letters (7 + j)) → Goes s t m₁ j (at 3 i 0) M [] count (length (N i .letters (1 + j)))
   full-goes full =
       record {
         after = withPosition M j (at 3 i 0) N;
@@ -112,7 +112,7 @@ module _ (s : Settings) (m : List ℕ) (j i : ℕ) (h : j < 6) (g : i < 6) (M : 
               here = here-at M j N i g apart some-left 3 (omega arith) (omega arith) (λ z. omega arith) empty;
             };
         same = front₁ .table;
-        way = stop-way t (at-m .mid .table) M j (at 3 i 0) N (λ k q a b. refl) (λ i k a b. refl) stage-3 other-i;
+        way = stop-way t M j h (at 3 i 0) N (λ k q a b. refl) (λ i k a b. refl) stage-3 other-i;
         turn = refl;
         left = refl;
       }
@@ -166,7 +166,7 @@ module _ (s : Settings) (m : List ℕ) (j i : ℕ) (h : j < 6) (g : i < 6) (M : 
       (λ v y. carry-stage M₂ x j stage₂ ∙ other₂ x (1 + j) (λ p q. v p) (λ p q. v p) ∙ sym (carry-away M x j (λ p. v (sym p ∙ other-i))))))
       (λ u z. carry-same M M₂ x k (put-other (M .stage) j 0 k u) (put-other (M .other) j 0 k u) (other₂ x (1 + k) (λ p q. u (omega arith)) (λ p q. omega arith)))
 
-  handed-goes : length (N i .letters (7 + j)) < s .a → Goes s t m₂ j atRest M count (length rest)
+  handed-goes : length (N i .letters (7 + j)) < s .a → Goes s t m₂ j atRest M [] count (length rest)
   handed-goes less =
       record {
         after = M₂;
@@ -177,20 +177,20 @@ module _ (s : Settings) (m : List ℕ) (j i : ℕ) (h : j < 6) (g : i < 6) (M : 
               here = here-rest M j N₂ (other₂ j 0 (λ u v. omega arith) (λ u v. omega arith) ∙ empty);
             };
         same = front₂ .table;
-        way = same-way t (at-m .mid .table) M M₂ (λ k q a b. ap liveOnes (other₂ k (13 + q) (λ u v. omega arith) (λ u v. omega arith))) carry₂;
+        way = carries-none t j M M₂ h (λ k q a b. ap liveOnes (other₂ k (13 + q) (λ u v. omega arith) (λ u v. omega arith))) carry₂;
         turn = refl;
         left = ap length rest₂;
       }
 
   -- STAGE 3, done or stopped
-  pub third-goes : acknowledged s j m i .how ≡ Done → Goes s (tableIn m) (sendDropped s j (acknowledged s j m i .memory) i) j atRest M (λ X. length (X .node i .letters (1 + j))) (length rest)
+  pub third-goes : acknowledged s j m i .how ≡ Done → Goes s (tableIn m) (sendDropped s j (acknowledged s j m i .memory) i) j atRest M [] (λ X. length (X .node i .letters (1 + j))) (length rest)
   third-goes z =
       split (ltb (length (N i .letters (7 + j))) (s .a))
-      (λ u. subst (λ (x : List ℕ). Goes s t x j atRest M count (length rest)) (sym (ap (λ (x : List ℕ). sendDropped s j x i) memory-is ∙ dropped-is)) (handed-goes (ltb-true (length (N i .letters (7 + j))) (s .a) u)))
+      (λ u. subst (λ (x : List ℕ). Goes s t x j atRest M [] count (length rest)) (sym (ap (λ (x : List ℕ). sendDropped s j x i) memory-is ∙ dropped-is)) (handed-goes (ltb-true (length (N i .letters (7 + j))) (s .a) u)))
       (λ u. absurd (not-done (sym z ∙ full-how (ltb-false (length (N i .letters (7 + j))) (s .a) u))))
 
-  pub third-stops : {n : ℕ} → acknowledged s j m i .how ≡ Stopped n → Goes s (tableIn m) (acknowledged s j m i .memory) j (at 3 i 0) M (λ X. length (X .node i .letters (1 + j))) (length (M .node i .letters (1 + j)))
+  pub third-stops : {n : ℕ} → acknowledged s j m i .how ≡ Stopped n → Goes s (tableIn m) (acknowledged s j m i .memory) j (at 3 i 0) M [] (λ X. length (X .node i .letters (1 + j))) (length (M .node i .letters (1 + j)))
   third-stops {n} z =
       split (ltb (length (N i .letters (7 + j))) (s .a))
       (λ u. absurd (not-done (sym (done-how (ltb-true (length (N i .letters (7 + j))) (s .a) u)) ∙ z)))
-      (λ u. subst (λ (x : List ℕ). Goes s t x j (at 3 i 0) M count (length (N i .letters (1 + j)))) (sym memory-is) (full-goes (ltb-false (length (N i .letters (7 + j))) (s .a) u)))
+      (λ u. subst (λ (x : List ℕ). Goes s t x j (at 3 i 0) M [] count (length (N i .letters (1 + j)))) (sym memory-is) (full-goes (ltb-false (length (N i .letters (7 + j))) (s .a) u)))

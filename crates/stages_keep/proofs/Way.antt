@@ -1,42 +1,46 @@
--- When the letters on the way are the same: queues and positions that are the same, a copy appended whose letter is handed over. Assumes nothing.
+-- What a postman carried: nothing where queues and positions are the same, a letter whose copy is appended while it counts as handed over, one thing after
+-- another; and that the letters on the way are then the same. Assumes nothing.
+--     carry-stage, carry-away, carry-over, carry-same     what is still to be handed over; carries-none, carries-one, carries-then
+--     carries-way     THE SAME LETTERS ON THE WAY
 use mathlib.Core.Path.{_≡_, refl, sym, ap, ap₂, _∙_}
-use mathlib.Core.Bool.{true, false, cond, _&&_}
-use mathlib.Core.List.{List, [], _∷_, _++_, map, map-append, append-assoc}
+use mathlib.Core.Bool.{Bool, true, false, cond, _&&_}
+use mathlib.Core.List.{List, [], _∷_, _++_, map, map-append, append-assoc, append-nil}
 use Prim.Native.Nat.{ℕ, _+_, _<_}
 use native.Mathlib.Omega.{arith}
 use lib.Dec.{eqb}
 use lib.ListN.{getD, drop}
-use borrow.Author.Tests.{eq-eqb, ne-eqb}
-use Rattle.words.proofs.Lists.{split, same?, and-false}
+use borrow.Author.Tests.{eqb-true, eq-eqb, ne-eqb}
+use Rattle.words.proofs.Lists.{split, same?, and-true, and-false}
 use Rattle.layout.specs.Numbers.{sourceTaskWord, destinationTaskWord}
 use Rattle.tasks.specs.Table.{nodeOf, queueOf, rightTable}
 use Rattle.tasks.proofs.Laws.{seat-below}
 use Rattle.machine.specs.Machine.{Letter, wordsOf, Machine}
 use Rattle.moves.specs.Letters.{liveOnes}
-use Rattle.moves.specs.Way.{between, ofPair, handedOver, toCarry, waitingFor, onTheWay, SameWay}
+use Rattle.moves.specs.Way.{those, between, isFrom, isFor, inQueue, toCarry, onTheWay, SameWay, Carries}
 
-module _ (a b : ℕ) where
-  pub pair-append : (xs ys : List (List ℕ)) → ofPair a b (xs ++ ys) ≡ ofPair a b xs ++ ofPair a b ys
-  unfolding ofPair
-  pair-append [] ys = refl
-  pair-append (x ∷ xs) ys = split (between a b x) (λ e. rw e (ap (λ l. x ∷ l) (pair-append xs ys))) (λ e. rw e (pair-append xs ys))
+module _ (p : List ℕ → Bool) where
+  pub those-append : (xs ys : List (List ℕ)) → those p (xs ++ ys) ≡ those p xs ++ those p ys
+  unfolding those
+  those-append [] ys = refl
+  those-append (x ∷ xs) ys = split (p x) (λ e. rw e (ap (λ l. x ∷ l) (those-append xs ys))) (λ e. rw e (those-append xs ys))
 
-  pub pair-skip : (w : List ℕ) (ws : List (List ℕ)) → between a b w ≡ false → ofPair a b (w ∷ ws) ≡ ofPair a b ws
-  unfolding ofPair
-  pair-skip w ws e = rw e
+  -- one that passes, one that does not
+  pub those-one : (w : List ℕ) → p w ≡ true → those p (w ∷ []) ≡ w ∷ []
+  unfolding those
+  those-one w e = rw e
 
-  -- a letter of another pair
-  pub another-source : (w : List ℕ) → (getD w sourceTaskWord 0 ≡ a → ⊥) → between a b w ≡ false
-  unfolding between
-  another-source w n = rw (ne-eqb (getD w 0 0) a n)
+  pub those-none : (w : List ℕ) → p w ≡ false → those p (w ∷ []) ≡ []
+  unfolding those
+  those-none w e = rw e
 
-  pub another-destination : (w : List ℕ) → (getD w destinationTaskWord 0 ≡ b → ⊥) → between a b w ≡ false
-  unfolding between
-  another-destination w n = rw (ne-eqb (getD w 2 0) b n) (and-false (eqb (getD w 0 0) a))
-
-  -- a letter of another pair, wherever it stands
-  pub pair-without : (xs : List (List ℕ)) (w : List ℕ) (ys : List (List ℕ)) → between a b w ≡ false → ofPair a b (xs ++ w ∷ ys) ≡ ofPair a b (xs ++ ys)
-  pair-without xs w ys e = pair-append xs (w ∷ ys) ∙ ap (λ l. ofPair a b xs ++ l) (pair-skip w ys e) ∙ sym (pair-append xs ys)
+  -- a test that the other passes too
+  pub those-those : (q : List ℕ → Bool) → ((w : List ℕ) → p w ≡ true → q w ≡ true) → (xs : List (List ℕ)) → those p (those q xs) ≡ those p xs
+  unfolding those
+  those-those q f [] = refl
+  those-those q f (x ∷ xs) =
+      split (p x)
+      (λ e. rw (f x e) (rw e (ap (λ l. x ∷ l) (those-those q f xs))))
+      (λ e. split (q x) (λ d. rw d (rw e (those-those q f xs))) (λ d. rw d (rw e (those-those q f xs))))
 
 -- ---- what is still to be handed over
 module _ (m : Machine) (i k : ℕ) where
@@ -56,79 +60,127 @@ pub carry-same : (m m′ : Machine) (i k : ℕ) → m′ .stage k ≡ m .stage k
 unfolding toCarry
 carry-same m m′ i k e f g = rw (e, f, g)
 
--- ---- queues and positions that are the same
-module _ (table : List ℕ) (right : rightTable table ≡ true) (m m′ : Machine) where
-  pub same-way : ((k q : ℕ) → k < 6 → q < 64 → liveOnes (m′ .node k .letters (13 + q)) ≡ liveOnes (m .node k .letters (13 + q))) → ((i k : ℕ) → i < 6 → k < 6 → toCarry m′ i k ≡ toCarry m i k) → SameWay table m m′
-  unfolding waitingFor
-  same-way f g a b x y =
+-- ---- queues and positions that are the same: nothing was carried
+pub carries-none : (table : List ℕ) (j : ℕ) (m m′ : Machine) → j < 6 → ((k q : ℕ) → k < 6 → q < 64 → liveOnes (m′ .node k .letters (13 + q)) ≡ liveOnes (m .node k .letters (13 + q)))
+    → ((i k : ℕ) → i < 6 → k < 6 → toCarry m′ i k ≡ toCarry m i k) → Carries table j m m′ []
+unfolding those inQueue
+carries-none table j m m′ h f g =
+    record {
+      arrived = λ q a. ap (map wordsOf) (f j q h a) ∙ sym (append-nil (map wordsOf (liveOnes (m .node j .letters (13 + q)))));
+      left = λ i a. ap (map wordsOf) (sym (g i j a h));
+      queues = λ k q a b n. ap (map wordsOf) (f k q a b);
+      others = λ i k a b n. g i k a b;
+    }
+
+-- ---- A COPY APPENDED to task queue q of node j, whose letter, the first of node i's send queue for j, counts as handed over
+module _ (table : List ℕ) (m m′ : Machine) (i j q : ℕ) (i6 : i < 6) (j6 : j < 6) (L K : Letter) (rest : List Letter) (copy : L .words ≡ K .words)
+    (from : nodeOf table (getD (K .words) sourceTaskWord 0) ≡ i) (to : queueOf table (getD (K .words) destinationTaskWord 0) ≡ q)
+    (first : m .node i .letters (1 + j) ≡ K ∷ rest) (stage : m .stage j ≡ 3 → ⊥) (stage′ : m′ .stage j ≡ 3) (other′ : m′ .other j ≡ i)
+    (stages : (k : ℕ) → k < 6 → (k ≡ j → ⊥) → m′ .stage k ≡ m .stage k) (others : (k : ℕ) → k < 6 → (k ≡ j → ⊥) → m′ .other k ≡ m .other k)
+    (sends : (k p : ℕ) → k < 6 → p < 6 → m′ .node k .letters (1 + p) ≡ m .node k .letters (1 + p))
+    (here : liveOnes (m′ .node j .letters (13 + q)) ≡ liveOnes (m .node j .letters (13 + q)) ++ L ∷ [])
+    (tasks : (k p : ℕ) → k < 6 → p < 64 → (k ≡ j → p ≡ q → ⊥) → liveOnes (m′ .node k .letters (13 + p)) ≡ liveOnes (m .node k .letters (13 + p))) where
+  abbrev w : List ℕ
+  w = K .words
+
+  for-q : isFor table q w ≡ true
+  unfolding isFor
+  for-q = eq-eqb (queueOf table (getD w 2 0)) q to
+
+  for-other : (p : ℕ) → (p ≡ q → ⊥) → isFor table p w ≡ false
+  unfolding isFor
+  for-other p n = ne-eqb (queueOf table (getD w 2 0)) p (λ e. n (sym e ∙ to))
+
+  from-i : isFrom table i w ≡ true
+  unfolding isFrom
+  from-i = eq-eqb (nodeOf table (getD w 0 0)) i from
+
+  from-other : (k : ℕ) → (k ≡ i → ⊥) → isFrom table k w ≡ false
+  unfolding isFrom
+  from-other k n = ne-eqb (nodeOf table (getD w 0 0)) k (λ e. n (sym e ∙ from))
+
+  -- the task queues of j
+  in-q : (p : ℕ) → p < 64 → inQueue m′ j p ≡ inQueue m j p ++ those (isFor table p) (w ∷ [])
+  unfolding inQueue
+  in-q p a =
+      same? p q
+      (λ e t. rw e (ap (map wordsOf) here ∙ map-append wordsOf (liveOnes (m .node j .letters (13 + q))) (L ∷ []) ∙ ap (λ (x : List ℕ). map wordsOf (liveOnes (m .node j .letters (13 + q))) ++ x ∷ []) copy
+      ∙ ap (λ (l : List (List ℕ)). map wordsOf (liveOnes (m .node j .letters (13 + q))) ++ l) (sym (those-one (isFor table q) w for-q))))
+      (λ e t. ap (map wordsOf) (tasks j p j6 a (λ u v. e v)) ∙ sym (append-nil (map wordsOf (liveOnes (m .node j .letters (13 + p)))))
+      ∙ ap (λ (l : List (List ℕ)). map wordsOf (liveOnes (m .node j .letters (13 + p))) ++ l) (sym (those-none (isFor table p) w (for-other p e))))
+
+  -- what waits for j
+  in-node : (k : ℕ) → k < 6 → map wordsOf (toCarry m k j) ≡ those (isFrom table k) (w ∷ []) ++ map wordsOf (toCarry m′ k j)
+  in-node k a =
+      same? k i
+      (λ e t. rw e
+      (ap (map wordsOf) (carry-stage m i j stage ∙ first)
+      ∙ sym (ap₂ (λ (l n : List (List ℕ)). l ++ n) (those-one (isFrom table i) w from-i) (ap (map wordsOf) (carry-over m′ i j stage′ other′ ∙ ap (drop 1) (sends i j i6 j6 ∙ first))))))
+      (λ e t. ap (map wordsOf) (carry-stage m k j stage)
+      ∙ sym (ap₂ (λ (l n : List (List ℕ)). l ++ n) (those-none (isFrom table k) w (from-other k e)) (ap (map wordsOf) (carry-away m′ k j (λ u. e (sym u ∙ other′)) ∙ sends k j a j6))))
+
+  pub carries-one : Carries table j m m′ (K .words ∷ [])
+  unfolding inQueue
+  carries-one =
+      record {
+        arrived = in-q;
+        left = in-node;
+        queues = λ k p a b n. ap (map wordsOf) (tasks k p a b (λ u v. n u));
+        others = λ k p a b n. carry-same m m′ k p (stages p b n) (others p b n) (sends k p a b);
+      }
+
+-- ---- one after another
+pub carries-then : (table : List ℕ) (j : ℕ) (m m′ m″ : Machine) (xs ys : List (List ℕ)) → Carries table j m m′ xs → Carries table j m′ m″ ys → Carries table j m m″ (xs ++ ys)
+carries-then table j m m′ m″ xs ys f g =
+    record {
+      arrived = λ q a. g .arrived q a ∙ ap (λ (l : List (List ℕ)). l ++ those (isFor table q) ys) (f .arrived q a) ∙ append-assoc (inQueue m j q) (those (isFor table q) xs) (those (isFor table q) ys)
+          ∙ ap (λ (l : List (List ℕ)). inQueue m j q ++ l) (sym (those-append (isFor table q) xs ys));
+      left = λ i a. f .left i a ∙ ap (λ (l : List (List ℕ)). those (isFrom table i) xs ++ l) (g .left i a)
+          ∙ sym (append-assoc (those (isFrom table i) xs) (those (isFrom table i) ys) (map wordsOf (toCarry m″ i j)))
+          ∙ ap (λ (l : List (List ℕ)). l ++ map wordsOf (toCarry m″ i j)) (sym (those-append (isFrom table i) xs ys));
+      queues = λ k q a b n. g .queues k q a b n ∙ f .queues k q a b n;
+      others = λ i k a b n. g .others i k a b n ∙ f .others i k a b n;
+    }
+
+-- ---- THE SAME LETTERS ON THE WAY
+module _ (table : List ℕ) (right : rightTable table ≡ true) (j : ℕ) (m m′ : Machine) (news : List (List ℕ)) (c : Carries table j m m′ news) where
+  -- a letter from a to b comes from a's node and is for b's queue
+  is-from : (a b : ℕ) (w : List ℕ) → between a b w ≡ true → isFrom table (nodeOf table a) w ≡ true
+  unfolding between isFrom
+  is-from a b w e = eq-eqb (nodeOf table (getD w 0 0)) (nodeOf table a) (ap (nodeOf table) (eqb-true (getD w 0 0) a (and-true (eqb (getD w 0 0) a) (eqb (getD w 2 0) b) e .0)))
+
+  is-for : (a b : ℕ) (w : List ℕ) → between a b w ≡ true → isFor table (queueOf table b) w ≡ true
+  unfolding between isFor
+  is-for a b w e = eq-eqb (queueOf table (getD w 2 0)) (queueOf table b) (ap (queueOf table) (eqb-true (getD w 2 0) b (and-true (eqb (getD w 0 0) a) (eqb (getD w 2 0) b) e .1)))
+
+  module _ (a b : ℕ) where
+    abbrev p : List ℕ → Bool
+    p = between a b
+
+    abbrev i : ℕ
+    i = nodeOf table a
+
+    abbrev q : ℕ
+    q = queueOf table b
+
+    own : i < 6 → q < 64 → those p (inQueue m′ j q ++ map wordsOf (toCarry m′ i j)) ≡ those p (inQueue m j q ++ map wordsOf (toCarry m i j))
+    own x y =
+        let t : List (List ℕ) = map wordsOf (toCarry m′ i j) in
+        those-append p (inQueue m′ j q) t
+        ∙ ap (λ (l : List (List ℕ)). those p l ++ those p t) (c .arrived q y)
+        ∙ ap (λ (l : List (List ℕ)). l ++ those p t) (those-append p (inQueue m j q) (those (isFor table q) news))
+        ∙ append-assoc (those p (inQueue m j q)) (those p (those (isFor table q) news)) (those p t)
+        ∙ ap (λ (l : List (List ℕ)). those p (inQueue m j q) ++ (l ++ those p t))
+        (those-those p (isFor table q) (is-for a b) news ∙ sym (those-those p (isFrom table i) (is-from a b) news))
+        ∙ ap (λ (l : List (List ℕ)). those p (inQueue m j q) ++ l) (sym (those-append p (those (isFrom table i) news) t) ∙ ap (those p) (sym (c .left i x)))
+        ∙ sym (those-append p (inQueue m j q) (map wordsOf (toCarry m i j)))
+
+  pub carries-way : SameWay table m m′
+  unfolding onTheWay
+  carries-way a b x y =
       let u = seat-below table a right x in
       let v = seat-below table b right y in
-      ap₂ (λ (ls ks : List Letter). ofPair a b (map wordsOf (ls ++ ks))) (f (nodeOf table b) (queueOf table b) (v .0) (v .1)) (g (nodeOf table a) (nodeOf table b) (u .0) (v .0))
-
-  -- ---- A COPY APPENDED to task queue q of node j, whose letter, the first of node i's send queue for j, counts as handed over
-  module _ (i j q : ℕ) (i6 : i < 6) (L K : Letter) (rest : List Letter) (copy : L .words ≡ K .words)
-      (from : nodeOf table (getD (K .words) sourceTaskWord 0) ≡ i) (to : queueOf table (getD (K .words) destinationTaskWord 0) ≡ q)
-      (first : m .node i .letters (1 + j) ≡ K ∷ rest) (stage : m .stage j ≡ 3 → ⊥) (stage′ : m′ .stage j ≡ 3) (other′ : m′ .other j ≡ i)
-      (stages : (k : ℕ) → k < 6 → (k ≡ j → ⊥) → m′ .stage k ≡ m .stage k) (others : (k : ℕ) → k < 6 → (k ≡ j → ⊥) → m′ .other k ≡ m .other k)
-      (sends : (k p : ℕ) → k < 6 → p < 6 → m′ .node k .letters (1 + p) ≡ m .node k .letters (1 + p))
-      (here : liveOnes (m′ .node j .letters (13 + q)) ≡ liveOnes (m .node j .letters (13 + q)) ++ L ∷ [])
-      (tasks : (k p : ℕ) → k < 6 → p < 64 → (k ≡ j → p ≡ q → ⊥) → liveOnes (m′ .node k .letters (13 + p)) ≡ liveOnes (m .node k .letters (13 + p))) where
-    abbrev ts : ℕ → ℕ → List Letter
-    ts k p = liveOnes (m .node k .letters (13 + p))
-
-    -- of the letters in the queues ls and then ks
-    abbrev of : ℕ → ℕ → List Letter → List Letter → List (List ℕ)
-    of a b ls ks = ofPair a b (map wordsOf (ls ++ ks))
-
-    -- with a letter at the end of the first, or at the front of the second
-    middle : (a b : ℕ) (ls ks : List Letter) → of a b (ls ++ L ∷ []) ks ≡ ofPair a b (map wordsOf ls ++ L .words ∷ map wordsOf ks)
-    middle a b ls ks =
-        ap (ofPair a b) (ap (map wordsOf) (append-assoc ls (L ∷ []) ks) ∙ map-append wordsOf ls (L ∷ ks))
-
-    front : (a b : ℕ) (ls ks : List Letter) → of a b ls (K ∷ ks) ≡ ofPair a b (map wordsOf ls ++ K .words ∷ map wordsOf ks)
-    front a b ls ks = ap (ofPair a b) (map-append wordsOf ls (K ∷ ks))
-
-    plain : (a b : ℕ) (ls ks : List Letter) → of a b ls ks ≡ ofPair a b (map wordsOf ls ++ map wordsOf ks)
-    plain a b ls ks = ap (ofPair a b) (map-append wordsOf ls ks)
-
-    module _ (a b : ℕ) (na nb qb : ℕ) (ea : na ≡ nodeOf table a) (eq : qb ≡ queueOf table b) (ha : na < 6) (hb : nb < 6) (hq : qb < 64) where
-      not-source : (na ≡ i → ⊥) → between a b (L .words) ≡ false
-      not-source n = another-source a b (L .words) (λ e. n (ea ∙ ap (nodeOf table) (sym e) ∙ ap (λ (w : List ℕ). nodeOf table (getD w 0 0)) copy ∙ from))
-
-      not-destination : (qb ≡ q → ⊥) → between a b (K .words) ≡ false
-      not-destination n = another-destination a b (K .words) (λ e. n (eq ∙ ap (queueOf table) (sym e) ∙ to))
-
-      goal : nb ≡ j → of a b (liveOnes (m′ .node j .letters (13 + qb))) (toCarry m′ na j) ≡ of a b (ts j qb) (toCarry m na j)
-      goal z =
-          let j6 : j < 6 = rw (← z) hb in
-          same? na i
-          (λ f t.
-          let c′ : toCarry m′ na j ≡ rest = rw f (carry-over m′ i j stage′ other′ ∙ ap (drop 1) (sends i j i6 j6 ∙ first)) in
-          let c : toCarry m na j ≡ K ∷ rest = rw f (carry-stage m i j stage ∙ first) in
-          same? qb q
-          (λ g u.
-          let d : liveOnes (m′ .node j .letters (13 + qb)) ≡ ts j q ++ L ∷ [] = rw g here in
-          ap₂ (λ (ls ks : List Letter). of a b ls ks) d c′ ∙ middle a b (ts j q) rest ∙ ap (λ (w : List ℕ). ofPair a b (map wordsOf (ts j q) ++ w ∷ map wordsOf rest)) copy ∙ sym (front a b (ts j q) rest)
-          ∙ sym (ap₂ (λ (ls ks : List Letter). of a b ls ks) (ap (ts j) g) c))
-          (λ g u. ap₂ (λ (ls ks : List Letter). of a b ls ks) (tasks j qb j6 hq (λ x y. g y)) c′ ∙ plain a b (ts j qb) rest ∙ sym (pair-without a b (map wordsOf (ts j qb)) (K .words) (map wordsOf rest) (not-destination g))
-          ∙ sym (front a b (ts j qb) rest) ∙ sym (ap (of a b (ts j qb)) c)))
-          (λ f t.
-          let c′ : toCarry m′ na j ≡ m .node na .letters (1 + j) = carry-away m′ na j (λ e. f (sym e ∙ other′)) ∙ sends na j ha j6 in
-          let c : toCarry m na j ≡ m .node na .letters (1 + j) = carry-stage m na j stage in
-          let x : List Letter = m .node na .letters (1 + j) in
-          same? qb q
-          (λ g u.
-          let d : liveOnes (m′ .node j .letters (13 + qb)) ≡ ts j q ++ L ∷ [] = rw g here in
-          ap₂ (λ (ls ks : List Letter). of a b ls ks) d c′ ∙ middle a b (ts j q) x ∙ pair-without a b (map wordsOf (ts j q)) (L .words) (map wordsOf x) (not-source f) ∙ sym (plain a b (ts j q) x)
-          ∙ sym (ap₂ (λ (ls ks : List Letter). of a b ls ks) (ap (ts j) g) c))
-          (λ g u. ap₂ (λ (ls ks : List Letter). of a b ls ks) (tasks j qb j6 hq (λ x y. g y)) (c′ ∙ sym c)))
-
-    pub deliver-way : SameWay table m m′
-    unfolding waitingFor
-    deliver-way a b x y =
-        let u = seat-below table a right x in
-        let v = seat-below table b right y in
-        same? (nodeOf table b) j
-        (λ e t. rw e (goal a b (nodeOf table a) (nodeOf table b) (queueOf table b) refl refl (u .0) (v .0) (v .1) e))
-        (λ e t. ap₂ (λ (ls ks : List Letter). of a b ls ks) (tasks (nodeOf table b) (queueOf table b) (v .0) (v .1) (λ z w. e z))
-        (carry-same m m′ (nodeOf table a) (nodeOf table b) (stages (nodeOf table b) (v .0) e) (others (nodeOf table b) (v .0) e) (sends (nodeOf table a) (nodeOf table b) (u .0) (v .0))))
+      same? (nodeOf table b) j
+      (λ e t. rw e (own a b (u .0) (v .1)))
+      (λ e t. ap₂ (λ (l : List (List ℕ)) (k : List Letter). those (between a b) (l ++ map wordsOf k))
+      (c .queues (nodeOf table b) (queueOf table b) (v .0) (v .1) e) (c .others (nodeOf table a) (nodeOf table b) (u .0) (v .0) e))
