@@ -195,7 +195,7 @@ module _ (s : Settings) (m : List ℕ) (j : ℕ) (p : Position) (h : j < 6) (M :
 
 -- from what a stage asks for
 module _ (s : Settings) (m : List ℕ) (j : ℕ) (p : Position) (st : Stands s m j p) where
-  pub machineAt : Machine
+  unfoldable pub machineAt : Machine
   machineAt = machineOf (standing m j p)
 
   pub stands-represents : RepresentsAt s (standing m j p) machineAt
