@@ -1,0 +1,58 @@
+use borrow.Author.Needs.{needs}
+use Rattle.stages.proofs.first_in.Statement.{statement}
+use Rattle.stages.proofs.first_in.Tie as tie
+use Rattle.stages.proofs.first_in.Reads as reads
+use Rattle.stages.proofs.first_in.Lts as lts
+use Rattle.layout.proofs.node_at.Reads as node-at-reads
+use Rattle.layout.proofs.node_size.Reads as node-size-reads
+use Rattle.queues.proofs.item.Reads as item-reads
+
+-- src/lib.rt:68:9
+node-at-requires : tie.Need-node-at-requires
+node-at-requires c κs = search needs
+
+-- src/lib.rt:69:17
+node-size-requires : tie.Need-node-size-requires
+node-size-requires c κs = search needs
+
+-- src/lib.rt:69:13
+add-e : tie.Need-add-e
+add-e c = search needs
+
+-- src/lib.rt:70:18
+mul-item : tie.Need-mul-item
+mul-item c = search needs
+
+-- src/lib.rt:70:18
+sub-item : tie.Need-sub-item
+sub-item c = search needs
+
+-- src/lib.rt:70:18
+part-item-start : tie.Need-part-item-start
+part-item-start c = search needs
+
+-- src/lib.rt:70:18
+part-item-end : tie.Need-part-item-end
+part-item-end c = search needs
+
+-- src/lib.rt:70:5
+item-requires : tie.Need-item-requires
+item-requires c κs = ?
+
+-- src/lib.rt:64:1
+returns : tie.Need-returns
+returns c = ?
+
+pub first-in-spec : {M : Type 1} → statement M
+first-in-spec =
+    tie.close
+    (tie.spec
+    node-at-requires
+    node-size-requires
+    add-e
+    mul-item
+    sub-item
+    part-item-start
+    part-item-end
+    item-requires
+    returns)

@@ -1,0 +1,21 @@
+use borrow.Author.Needs.{needs}
+use Rattle.stages.proofs.length_of.Statement.{statement}
+use Rattle.stages.proofs.length_of.Tie as tie
+use Rattle.stages.proofs.length_of.Reads as reads
+use Rattle.stages.proofs.length_of.Lts as lts
+use Rattle.stages.proofs.word_in.Reads as word-in-reads
+
+-- src/lib.rt:60:5
+word-in-requires : tie.Need-word-in-requires
+word-in-requires c κs = search needs
+
+-- src/lib.rt:60:5
+cast-result : tie.Need-cast-result
+cast-result c = search needs
+
+-- src/lib.rt:56:1
+returns : tie.Need-returns
+returns c = ?
+
+pub length-of-spec : {M : Type 1} → statement M
+length-of-spec = tie.close (tie.spec word-in-requires cast-result returns)

@@ -1,0 +1,58 @@
+use borrow.Author.Needs.{needs}
+use Rattle.stages.proofs.word_in.Statement.{statement}
+use Rattle.stages.proofs.word_in.Tie as tie
+use Rattle.stages.proofs.word_in.Reads as reads
+use Rattle.stages.proofs.word_in.Lts as lts
+use Rattle.layout.proofs.node_at.Reads as node-at-reads
+use Rattle.layout.proofs.node_size.Reads as node-size-reads
+use Rattle.letters.proofs.word_of.Reads as word-of-reads
+
+-- src/lib.rt:50:9
+node-at-requires : tie.Need-node-at-requires
+node-at-requires c κs = search needs
+
+-- src/lib.rt:51:17
+node-size-requires : tie.Need-node-size-requires
+node-size-requires c κs = search needs
+
+-- src/lib.rt:51:13
+add-e : tie.Need-add-e
+add-e c = search needs
+
+-- src/lib.rt:52:22
+mul-word-of : tie.Need-mul-word-of
+mul-word-of c = search needs
+
+-- src/lib.rt:52:22
+sub-word-of : tie.Need-sub-word-of
+sub-word-of c = search needs
+
+-- src/lib.rt:52:22
+part-word-of-start : tie.Need-part-word-of-start
+part-word-of-start c = search needs
+
+-- src/lib.rt:52:22
+part-word-of-end : tie.Need-part-word-of-end
+part-word-of-end c = search needs
+
+-- src/lib.rt:52:5
+word-of-requires : tie.Need-word-of-requires
+word-of-requires c κs = ?
+
+-- src/lib.rt:45:1
+returns : tie.Need-returns
+returns c = ?
+
+pub word-in-spec : {M : Type 1} → statement M
+word-in-spec =
+    tie.close
+    (tie.spec
+    node-at-requires
+    node-size-requires
+    add-e
+    mul-word-of
+    sub-word-of
+    part-word-of-start
+    part-word-of-end
+    word-of-requires
+    returns)
