@@ -1,3 +1,10 @@
+use Rattle.queues.specs.Moves.{appended, appendAnswer}
+use Rattle.queues.specs.Queue.{Queue}
+use Rattle.stages.proofs.Lent.{lent-part, lent-as, lent-back}
+use lib.ListN.{length, getD}
+use Prim.Native.Nat.{ℕ, _<_}
+use mathlib.Core.List.{List}
+use mathlib.Core.Path.{_≡_, refl, sym, ap, _∙_}
 use borrow.Author.Needs.{needs}
 use Rattle.stages.proofs.append_in.Statement.{statement}
 use Rattle.stages.proofs.append_in.Tie as tie
@@ -37,7 +44,7 @@ part-append-end c = search needs
 
 -- src/lib.rt:90:5
 append-requires : tie.Need-append-requires
-append-requires c κs = ?
+append-requires c κs = let x = c .before .before .before .before in lent-as (x .args .s) (x .args .memory .now) (x .args .i) (c .before .node-at .ensures .is) (c .before .before .node-size .ensures .is) (λ (l : List ℕ). Queue (x .args .k) l (x .args .q)) (x .pre .queue)
 
 -- src/lib.rt:83:1
 same-length : tie.Need-same-length
@@ -45,7 +52,7 @@ same-length c = search needs
 
 -- src/lib.rt:83:1
 returns : tie.Need-returns
-returns c = ?
+returns c = let x = c .before .before .before .before .before .before .before in (lent-back (x .args .s) (x .args .memory .now) (x .args .i) (c .before .before .before .before .node-at .ensures .is) (c .before .before .before .before .before .node-size .ensures .is) (λ (l : List ℕ). appended (x .args .k) l (x .args .q) (x .args .item)) (c .before .before .append .ensures .0), c .before .before .append .ensures .1 ∙ ap (λ (l : List ℕ). appendAnswer (x .args .k) l (x .args .q)) (lent-part (x .args .s) (x .args .memory .now) (x .args .i) (c .before .before .before .before .node-at .ensures .is) (c .before .before .before .before .before .node-size .ensures .is)))
 
 pub append-in-spec : {M : Type 1} → statement M
 append-in-spec =

@@ -1,3 +1,9 @@
+use Rattle.queues.specs.Moves.{counted}
+use Rattle.stages.proofs.Lent.{lent-as, lent-back, lent-head}
+use lib.ListN.{length, getD}
+use Prim.Native.Nat.{ℕ, _<_}
+use mathlib.Core.List.{List}
+use mathlib.Core.Path.{_≡_, refl, sym, ap, _∙_}
 use borrow.Author.Needs.{needs}
 use Rattle.stages.proofs.count_room.Statement.{statement}
 use Rattle.stages.proofs.count_room.Tie as tie
@@ -37,7 +43,7 @@ part-count-up-end c = search needs
 
 -- src/lib.rt:146:5
 count-up-requires : tie.Need-count-up-requires
-count-up-requires c κs = ?
+count-up-requires c κs = let x = c .before .before .before .before in lent-as (x .args .s) (x .args .memory .now) (x .args .j) (c .before .node-at .ensures .is) (c .before .before .node-size .ensures .is) (λ (l : List ℕ). 1 < length l) (lent-head (x .args .s) (x .args .memory .now) (x .args .j) (x .pre))
 
 -- src/lib.rt:139:1
 same-length : tie.Need-same-length
@@ -45,7 +51,7 @@ same-length c = search needs
 
 -- src/lib.rt:139:1
 returns : tie.Need-returns
-returns c = ?
+returns c = let x = c .before .before .before .before .before .before .before in lent-back (x .args .s) (x .args .memory .now) (x .args .j) (c .before .before .before .before .node-at .ensures .is) (c .before .before .before .before .before .node-size .ensures .is) (λ (l : List ℕ). counted l 1) (c .before .before .count-up .ensures)
 
 pub count-room-spec : {M : Type 1} → statement M
 count-room-spec =

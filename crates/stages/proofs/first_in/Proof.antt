@@ -1,3 +1,10 @@
+use Rattle.queues.specs.Queue.{Queue, itemAt}
+use Rattle.stages.proofs.Lent.{lent-part, lent-as, lent-back}
+use native.Mathlib.Omega.{arith}
+use lib.ListN.{length, getD}
+use Prim.Native.Nat.{ℕ, _<_}
+use mathlib.Core.List.{List}
+use mathlib.Core.Path.{_≡_, refl, sym, ap, _∙_}
 use borrow.Author.Needs.{needs}
 use Rattle.stages.proofs.first_in.Statement.{statement}
 use Rattle.stages.proofs.first_in.Tie as tie
@@ -37,11 +44,11 @@ part-item-end c = search needs
 
 -- src/lib.rt:70:5
 item-requires : tie.Need-item-requires
-item-requires c κs = ?
+item-requires c κs = let x = c .before .before .before .before in (lent-as (x .args .s) (x .args .memory .now) (x .args .i) (c .before .before .node-at .ensures .is) (c .before .node-size .ensures .is) (λ (l : List ℕ). Queue (x .args .k) l (x .args .q)) (x .pre .queue), omega (arith, x .pre .queue .placed .some))
 
 -- src/lib.rt:64:1
 returns : tie.Need-returns
-returns c = ?
+returns c = let x = c .before .before .before .before .before in c .item .ensures ∙ ap (λ (l : List ℕ). itemAt (x .args .k) l (x .args .q) 0) (lent-part (x .args .s) (x .args .memory .now) (x .args .i) (c .before .before .before .node-at .ensures .is) (c .before .before .node-size .ensures .is))
 
 pub first-in-spec : {M : Type 1} → statement M
 first-in-spec =

@@ -1,3 +1,4 @@
+use Rattle.stages.proofs.Copying.{first-queue, first-item}
 use borrow.Author.Needs.{needs}
 use Rattle.stages.proofs.first_of.Statement.{statement}
 use Rattle.stages.proofs.first_of.Tie as tie
@@ -17,11 +18,11 @@ send-kind-requires c κs = search needs
 
 -- src/lib.rt:79:5
 first-in-requires : tie.Need-first-in-requires
-first-in-requires c κs = ?
+first-in-requires c κs = let x = c .before .before .before in first-queue (x .args .s) (x .args .memory .now) (x .args .i) (x .args .j) (x .pre) (c .send-kind .ensures) (c .before .send-at .ensures .is)
 
 -- src/lib.rt:74:1
 returns : tie.Need-returns
-returns c = ?
+returns c = let x = c .before .before .before .before in first-item (x .args .s) (x .args .memory .now) (x .args .i) (x .args .j) (x .pre) (c .before .send-kind .ensures) (c .before .before .send-at .ensures .is) (c .first-in .ensures)
 
 pub first-of-spec : {M : Type 1} → statement M
 first-of-spec = tie.close (tie.spec send-at-requires send-kind-requires first-in-requires returns)

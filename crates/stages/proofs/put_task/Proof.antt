@@ -1,3 +1,4 @@
+use Rattle.stages.proofs.Putting.{holds-addressed, holds-queue, queued-is}
 use borrow.Author.Needs.{needs}
 use Rattle.stages.proofs.put_task.Statement.{statement}
 use Rattle.stages.proofs.put_task.Tie as tie
@@ -9,11 +10,11 @@ use Rattle.stages.proofs.stage_of.Reads as stage-of-reads
 
 -- src/lib.rt:193:9
 queue-for-requires : tie.Need-queue-for-requires
-queue-for-requires c κs = ?
+queue-for-requires c κs = let x = c .before .before in holds-addressed (x .args .s) (x .args .memory .now) (x .args .j) (x .args .c) (x .pre)
 
 -- src/lib.rt:194:9
 append-task-requires : tie.Need-append-task-requires
-append-task-requires c κs = ?
+append-task-requires c κs = let x = c .before .before .before .before in holds-queue (x .args .s) (x .args .memory .now) (x .args .j) (x .args .c) (x .pre) (c .before .queue-for .ensures)
 
 -- src/lib.rt:195:5
 stage-of-requires : tie.Need-stage-of-requires
@@ -25,7 +26,7 @@ same-length c = search needs
 
 -- src/lib.rt:189:1
 returns : tie.Need-returns
-returns c = ?
+returns c = let x = c .before .before .before .before .before .before .before .before in queued-is (x .args .s) (x .args .memory .now) (x .args .j) (x .args .c) (x .pre) (c .before .before .before .before .before .queue-for .ensures) (c .before .before .before .append-task .ensures .0) (c .before .before .before .append-task .ensures .1) (c .stage-of .ensures)
 
 pub put-task-spec : {M : Type 1} → statement M
 put-task-spec =

@@ -1,3 +1,7 @@
+use Rattle.stages.proofs.Putting.{never-unbound, seat-small, seat-queue}
+use Rattle.stages.proofs.Lent.{lent-front}
+use native.Mathlib.Omega.{arith}
+use mathlib.Core.Path.{sym, _∙_}
 use borrow.Author.Needs.{needs}
 use Rattle.stages.proofs.queue_for.Statement.{statement}
 use Rattle.stages.proofs.queue_for.Tie as tie
@@ -21,7 +25,7 @@ part-seat-of-start c = search needs
 
 -- src/lib.rt:182:41
 part-seat-of-end : tie.Need-part-seat-of-end
-part-seat-of-end c = ?
+part-seat-of-end c = let x = c .before .before in omega (arith, lent-front (x .args .s) (x .args .memory .now) (x .args .j) (x .pre .begins .lent))
 
 -- src/lib.rt:182:26
 seat-of-requires : tie.Need-seat-of-requires
@@ -37,7 +41,7 @@ enum-told c = search needs
 
 -- src/lib.rt:183:9
 returns : tie.Need-returns
-returns c = ?
+returns c = let x = c .before .before .before .before .before .before in absurd (never-unbound (x .args .s) (x .args .memory .now) (x .args .j) (x .args .c) (x .pre) (c .before .before .before .before .word-in .ensures) (sym (c .before .before .seat-of .ensures) ∙ c .enum-told .given .1))
 
 -- src/lib.rt:185:24
 cast-task-at : tie.Need-cast-task-at
@@ -45,11 +49,11 @@ cast-task-at c = search needs
 
 -- src/lib.rt:185:5
 task-at-requires : tie.Need-task-at-requires
-task-at-requires c κs = ?
+task-at-requires c κs = let x = c .before .before .before .before .before .before .before in (x .pre .begins .lent .sized .range, seat-small (x .args .s) (x .args .memory .now) (x .args .j) (x .args .c) (x .pre) (c .before .before .before .before .before .word-in .ensures) _ _ (sym (c .before .before .before .seat-of .ensures) ∙ c .before .q .given .1))
 
 -- src/lib.rt:177:1
 returns-2 : tie.Need-returns-2
-returns-2 c = ?
+returns-2 c = let x = c .before .before .before .before .before .before .before .before in seat-queue (x .args .s) (x .args .memory .now) (x .args .j) (x .args .c) (x .pre) (c .before .before .before .before .before .before .word-in .ensures) _ _ (sym (c .before .before .before .before .seat-of .ensures) ∙ c .before .before .q .given .1) (c .task-at .ensures .is)
 
 pub queue-for-spec : {M : Type 1} → statement M
 queue-for-spec =

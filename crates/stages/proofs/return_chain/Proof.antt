@@ -1,3 +1,10 @@
+use Rattle.blocks.specs.Moves.{givenBack}
+use Rattle.blocks.specs.Asked.{Walks}
+use Rattle.stages.proofs.Lent.{lent-part, lent-as, lent-back}
+use lib.ListN.{length, getD}
+use Prim.Native.Nat.{ℕ, _<_}
+use mathlib.Core.List.{List}
+use mathlib.Core.Path.{_≡_, refl, sym, ap, _∙_}
 use borrow.Author.Needs.{needs}
 use Rattle.stages.proofs.return_chain.Statement.{statement}
 use Rattle.stages.proofs.return_chain.Tie as tie
@@ -37,7 +44,7 @@ part-give-back-end c = search needs
 
 -- src/lib.rt:135:5
 give-back-requires : tie.Need-give-back-requires
-give-back-requires c κs = ?
+give-back-requires c κs = let x = c .before .before .before .before in (lent-as (x .args .s) (x .args .memory .now) (x .args .j) (c .before .node-at .ensures .is) (c .before .before .node-size .ensures .is) (λ (l : List ℕ). Walks (x .args .s) l (x .args .n) (x .args .b)) (x .pre .walks), x .pre .some)
 
 -- src/lib.rt:128:1
 same-length : tie.Need-same-length
@@ -45,7 +52,7 @@ same-length c = search needs
 
 -- src/lib.rt:128:1
 returns : tie.Need-returns
-returns c = ?
+returns c = let x = c .before .before .before .before .before .before .before in lent-back (x .args .s) (x .args .memory .now) (x .args .j) (c .before .before .before .before .node-at .ensures .is) (c .before .before .before .before .before .node-size .ensures .is) (λ (l : List ℕ). givenBack (x .args .s) l (x .args .n) (x .args .b)) (c .before .before .give-back .ensures)
 
 pub return-chain-spec : {M : Type 1} → statement M
 return-chain-spec =

@@ -1,3 +1,10 @@
+use Rattle.blocks.specs.Moves.{taken, takenAnswer}
+use Rattle.blocks.specs.Asked.{Takes}
+use Rattle.stages.proofs.Lent.{lent-part, lent-as, lent-back}
+use lib.ListN.{length, getD}
+use Prim.Native.Nat.{ℕ, _<_}
+use mathlib.Core.List.{List}
+use mathlib.Core.Path.{_≡_, refl, sym, ap, _∙_}
 use borrow.Author.Needs.{needs}
 use Rattle.stages.proofs.take_space.Statement.{statement}
 use Rattle.stages.proofs.take_space.Tie as tie
@@ -37,7 +44,7 @@ part-take-end c = search needs
 
 -- src/lib.rt:124:5
 take-requires : tie.Need-take-requires
-take-requires c κs = ?
+take-requires c κs = let x = c .before .before .before .before in lent-as (x .args .s) (x .args .memory .now) (x .args .j) (c .before .node-at .ensures .is) (c .before .before .node-size .ensures .is) (λ (l : List ℕ). Takes (x .args .s) l (x .args .n)) (x .pre .takes)
 
 -- src/lib.rt:117:1
 same-length : tie.Need-same-length
@@ -45,7 +52,7 @@ same-length c = search needs
 
 -- src/lib.rt:117:1
 returns : tie.Need-returns
-returns c = ?
+returns c = let x = c .before .before .before .before .before .before .before in (lent-back (x .args .s) (x .args .memory .now) (x .args .j) (c .before .before .before .before .node-at .ensures .is) (c .before .before .before .before .before .node-size .ensures .is) (λ (l : List ℕ). taken (x .args .s) l (x .args .n)) (c .before .before .take .ensures .1), c .before .before .take .ensures .0 ∙ ap (λ (l : List ℕ). takenAnswer (x .args .s) l (x .args .n)) (lent-part (x .args .s) (x .args .memory .now) (x .args .j) (c .before .before .before .before .node-at .ensures .is) (c .before .before .before .before .before .node-size .ensures .is)))
 
 pub take-space-spec : {M : Type 1} → statement M
 take-space-spec =

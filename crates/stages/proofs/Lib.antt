@@ -1,0 +1,6 @@
+pub mod Given
+pub mod Lent
+pub mod Stood
+pub mod Copying
+pub mod Putting
+pub mod Giving
