@@ -1,0 +1,63 @@
+use borrow.Author.Needs.{needs}
+use Rattle.carrying.proofs.deliver.Statement.{statement}
+use Rattle.carrying.proofs.deliver.Tie as tie
+use Rattle.carrying.proofs.deliver.Reads as reads
+use Rattle.carrying.proofs.deliver.Lts as lts
+use Rattle.carrying.proofs.hand_on.Reads as hand-on-reads
+use Rattle.postman.proofs.one_letter.Reads as one-letter-reads
+use Rattle.postman.proofs.stop.Reads as stop-reads
+use Rattle.stages.proofs.put_task.Reads as put-task-reads
+
+-- src/lib.rt:92:9
+put-task-requires : tie.Need-put-task-requires
+put-task-requires c κs = search needs
+
+enum-told : tie.Need-enum-told
+enum-told c = search needs
+
+-- src/lib.rt:94:9
+enum-told-2 : tie.Need-enum-told-2
+enum-told-2 c = search needs
+
+-- src/lib.rt:94:9
+stop-requires : tie.Need-stop-requires
+stop-requires c κs = ?
+
+-- src/lib.rt:94:9
+same-length : tie.Need-same-length
+same-length c = search needs
+
+-- src/lib.rt:94:9
+returns : tie.Need-returns
+returns c = ?
+
+-- src/lib.rt:96:9
+one-letter-requires : tie.Need-one-letter-requires
+one-letter-requires c κs = search needs
+
+-- src/lib.rt:97:5
+hand-on-requires : tie.Need-hand-on-requires
+hand-on-requires c κs = ?
+
+-- src/lib.rt:88:1
+same-length-2 : tie.Need-same-length-2
+same-length-2 c = search needs
+
+-- src/lib.rt:88:1
+returns-2 : tie.Need-returns-2
+returns-2 c = ?
+
+pub deliver-spec : {M : Type 1} → statement M
+deliver-spec =
+    tie.close
+    (tie.spec
+    put-task-requires
+    enum-told
+    enum-told-2
+    stop-requires
+    same-length
+    returns
+    one-letter-requires
+    hand-on-requires
+    same-length-2
+    returns-2)

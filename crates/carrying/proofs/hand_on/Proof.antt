@@ -1,0 +1,57 @@
+use borrow.Author.Needs.{needs}
+use Rattle.carrying.proofs.hand_on.Statement.{statement}
+use Rattle.carrying.proofs.hand_on.Tie as tie
+use Rattle.carrying.proofs.hand_on.Reads as reads
+use Rattle.carrying.proofs.hand_on.Lts as lts
+use Rattle.postman.proofs.stop.Reads as stop-reads
+use Rattle.stages.proofs.drop_send.Reads as drop-send-reads
+use Rattle.stages.proofs.put_ack.Reads as put-ack-reads
+
+-- src/lib.rt:79:9
+put-ack-requires : tie.Need-put-ack-requires
+put-ack-requires c κs = search needs
+
+enum-told : tie.Need-enum-told
+enum-told c = search needs
+
+-- src/lib.rt:81:9
+enum-told-2 : tie.Need-enum-told-2
+enum-told-2 c = search needs
+
+-- src/lib.rt:81:9
+stop-requires : tie.Need-stop-requires
+stop-requires c κs = ?
+
+-- src/lib.rt:81:9
+same-length : tie.Need-same-length
+same-length c = search needs
+
+-- src/lib.rt:81:9
+returns : tie.Need-returns
+returns c = ?
+
+-- src/lib.rt:83:5
+drop-send-requires : tie.Need-drop-send-requires
+drop-send-requires c κs = ?
+
+-- src/lib.rt:75:1
+same-length-2 : tie.Need-same-length-2
+same-length-2 c = search needs
+
+-- src/lib.rt:75:1
+returns-2 : tie.Need-returns-2
+returns-2 c = ?
+
+pub hand-on-spec : {M : Type 1} → statement M
+hand-on-spec =
+    tie.close
+    (tie.spec
+    put-ack-requires
+    enum-told
+    enum-told-2
+    stop-requires
+    same-length
+    returns
+    drop-send-requires
+    same-length-2
+    returns-2)
