@@ -1,128 +1,66 @@
+-- The proof of the cycle of calls {carry_all}. Assumes nothing.
+use Rattle.carrying.proofs.Asks.{all-one, all-next}
+use Rattle.carrying.proofs.Ways.{all-none, all-stop, all-go}
+use borrow.Author.Needs.{needs}
+use native.Mathlib.Omega.{arith}
 use Prim.Native.Nat.{ℕ, _<_}
 use borrow.Fn.Kinds.{In}
 use borrow.Fn.PlainCycle.{Measures, is, falls, and}
-use Rattle.carrying.proofs.carry_all.Reads as carry-all
-use Rattle.carrying.proofs.carry_all.Kinds as carry-all-kinds
-use Rattle.carrying.proofs.+carry_all.Lts-carry_all as carry-all-lts
+use Rattle.carrying.proofs.carry_all.Reads as own
+use Rattle.carrying.proofs.carry_all.Kinds as kinds
+use Rattle.carrying.proofs.+carry_all.Lts-carry_all as lts
 use Rattle.carrying.proofs.carry.Reads as carry-reads
 use Rattle.carrying.proofs.+carry_all.{statement}
 use Rattle.carrying.proofs.+carry_all.Tie.{close}
 
-abbrev μ-carry-all : Measures 1 carry-all-kinds.ps ℕ
-μ-carry-all κs a = ?
+abbrev μ : Measures 1 kinds.ps ℕ
+μ κs a = a .1 .1 .1 .1 .0
 
-abbrev carry-all-at : ℕ → In 1 carry-all-kinds.ps
-carry-all-at t = and 1 carry-all-kinds.ps (is 1 carry-all-kinds.ps μ-carry-all t) carry-all.Pre
+module _ (t : ℕ) where
+  abbrev Pre : In 1 kinds.ps
+  Pre = and 1 kinds.ps (is 1 kinds.ps μ t) own.Pre
 
-abbrev carry-all-below : ℕ → In 1 carry-all-kinds.ps
-carry-all-below t =
-    and 1 carry-all-kinds.ps (falls 1 carry-all-kinds.ps _<_ μ-carry-all t) carry-all.Pre
+  abbrev calls : lts.Claims
+  calls = (carry-reads.Asked, carry-reads.Learnt, and 1 kinds.ps (falls 1 kinds.ps _<_ μ t) own.Pre, own.Post)
 
--- src/lib.rt:119:9
-carry-all-returns : (t : ℕ) → carry-all-lts.Need-returns (
-  carry-reads.Asked,
-  carry-reads.Learnt,
-  carry-all-below t,
-  carry-all.Post,
-) (carry-all-at t) carry-all.Post
-carry-all-returns t c = ?
+  -- src/lib.rt:119:9
+  returns : lts.Need-returns calls Pre own.Post
+  returns c = let x = c .before .before in all-none (x .args .s) (x .args .j) (x .args .k) (x .args .memory .now) (x .args .i) (x .args .r) (c .if1 .taken)
 
--- src/lib.rt:121:9
-carry-all-carry-requires : (t : ℕ) → carry-all-lts.Need-carry-requires (
-  carry-reads.Asked,
-  carry-reads.Learnt,
-  carry-all-below t,
-  carry-all.Post,
-) (carry-all-at t) carry-all.Post
-carry-all-carry-requires t c κs = ?
+  -- src/lib.rt:121:9
+  carry-requires : lts.Need-carry-requires calls Pre own.Post
+  carry-requires c κs = let x = c .before .before .before in all-one (x .args .s) (x .args .memory .now) (x .args .j) (x .args .i) (x .args .k) (x .args .r) (x .pre .1) (omega arith)
 
-carry-all-enum-told : (t : ℕ) → carry-all-lts.Need-enum-told (
-  carry-reads.Asked,
-  carry-reads.Learnt,
-  carry-all-below t,
-  carry-all.Post,
-) (carry-all-at t) carry-all.Post
-carry-all-enum-told t c = ?
+  enum-told : lts.Need-enum-told calls Pre own.Post
+  enum-told c = search needs
 
--- src/lib.rt:124:9
-carry-all-enum-told-2 : (t : ℕ) → carry-all-lts.Need-enum-told-2 (
-  carry-reads.Asked,
-  carry-reads.Learnt,
-  carry-all-below t,
-  carry-all.Post,
-) (carry-all-at t) carry-all.Post
-carry-all-enum-told-2 t c = ?
+  -- src/lib.rt:124:9
+  enum-told-2 : lts.Need-enum-told-2 calls Pre own.Post
+  enum-told-2 c = search needs
 
--- src/lib.rt:124:9
-carry-all-same-length : (t : ℕ) → carry-all-lts.Need-same-length (
-  carry-reads.Asked,
-  carry-reads.Learnt,
-  carry-all-below t,
-  carry-all.Post,
-) (carry-all-at t) carry-all.Post
-carry-all-same-length t c = ?
+  -- src/lib.rt:124:9
+  same-length : lts.Need-same-length calls Pre own.Post
+  same-length c = search needs
 
--- src/lib.rt:124:9
-carry-all-returns-2 : (t : ℕ) → carry-all-lts.Need-returns-2 (
-  carry-reads.Asked,
-  carry-reads.Learnt,
-  carry-all-below t,
-  carry-all.Post,
-) (carry-all-at t) carry-all.Post
-carry-all-returns-2 t c = ?
+  -- src/lib.rt:124:9
+  returns-2 : lts.Need-returns-2 calls Pre own.Post
+  returns-2 c = let x = c .before .before .before .before .before .before .before .before in all-stop (x .args .s) (x .args .j) (x .args .k) (x .args .memory .now) (x .args .i) (x .args .r) (omega arith) (c .before .before .before .before .carry .ensures) (c .enum-told2 .given .1)
 
--- src/lib.rt:126:32
-carry-all-sub-carry-all : (t : ℕ) → carry-all-lts.Need-sub-carry-all (
-  carry-reads.Asked,
-  carry-reads.Learnt,
-  carry-all-below t,
-  carry-all.Post,
-) (carry-all-at t) carry-all.Post
-carry-all-sub-carry-all t c = ?
+  -- src/lib.rt:126:32
+  sub-carry-all : lts.Need-sub-carry-all calls Pre own.Post
+  sub-carry-all c = omega arith
 
--- src/lib.rt:126:5
-carry-all-carry-all-requires : (t : ℕ) → carry-all-lts.Need-carry-all-requires (
-  carry-reads.Asked,
-  carry-reads.Learnt,
-  carry-all-below t,
-  carry-all.Post,
-) (carry-all-at t) carry-all.Post
-carry-all-carry-all-requires t c κs = ?
+  -- src/lib.rt:126:5
+  carry-all-requires : lts.Need-carry-all-requires calls Pre own.Post
+  carry-all-requires c κs = let x = c .before .before .before .before .before .before .before .before .before in (omega arith, all-next (x .args .s) (x .args .memory .now) (x .args .j) (x .args .i) (x .args .k) (x .args .r) (x .pre .1) (omega arith) (c .before .before .before .before .before .carry .ensures) (c .before .enum-told .given .1))
 
--- src/lib.rt:114:1
-carry-all-same-length-2 : (t : ℕ) → carry-all-lts.Need-same-length-2 (
-  carry-reads.Asked,
-  carry-reads.Learnt,
-  carry-all-below t,
-  carry-all.Post,
-) (carry-all-at t) carry-all.Post
-carry-all-same-length-2 t c = ?
+  -- src/lib.rt:114:1
+  same-length-2 : lts.Need-same-length-2 calls Pre own.Post
+  same-length-2 c = search needs
 
--- src/lib.rt:114:1
-carry-all-returns-3 : (t : ℕ) → carry-all-lts.Need-returns-3 (
-  carry-reads.Asked,
-  carry-reads.Learnt,
-  carry-all-below t,
-  carry-all.Post,
-) (carry-all-at t) carry-all.Post
-carry-all-returns-3 t c = ?
+  -- src/lib.rt:114:1
+  returns-3 : lts.Need-returns-3 calls Pre own.Post
+  returns-3 c = let x = c .before .before .before .before .before .before .before .before .before .before .before .before in all-go (x .args .s) (x .args .j) (x .args .k) (x .args .memory .now) (x .args .i) (x .args .r) (omega arith) (c .before .before .before .before .before .before .before .before .carry .ensures) (c .before .before .before .before .enum-told .given .1) (c .before .before .carry-all .ensures)
 
 pub +carry-all-spec : {M : Type 1} → statement M
-+carry-all-spec = close μ-carry-all λ t. carry-all-lts.spec (
-  carry-reads.Asked,
-  carry-reads.Learnt,
-  carry-all-below t,
-  carry-all.Post,
-)
-    (carry-all-at t)
-    carry-all.Post
-    (carry-all-returns t)
-    (carry-all-carry-requires t)
-    (carry-all-enum-told t)
-    (carry-all-enum-told-2 t)
-    (carry-all-same-length t)
-    (carry-all-returns-2 t)
-    (carry-all-sub-carry-all t)
-    (carry-all-carry-all-requires t)
-    (carry-all-same-length-2 t)
-    (carry-all-returns-3 t)
++carry-all-spec = close μ (λ t. lts.spec (calls t) (Pre t) own.Post (returns t) (carry-requires t) (enum-told t) (enum-told-2 t) (same-length t) (returns-2 t) (sub-carry-all t) (carry-all-requires t) (same-length-2 t) (returns-3 t))

@@ -1,90 +1,51 @@
+-- The proof of the cycle of calls {collect_all}. Assumes nothing.
+use Rattle.carrying.proofs.Asks.{back-one, back-next}
+use Rattle.carrying.proofs.Ways.{back-none, back-go}
+use borrow.Author.Needs.{needs}
+use native.Mathlib.Omega.{arith}
 use Prim.Native.Nat.{ℕ, _<_}
 use borrow.Fn.Kinds.{In}
 use borrow.Fn.PlainCycle.{Measures, is, falls, and}
-use Rattle.carrying.proofs.collect_all.Reads as collect-all
-use Rattle.carrying.proofs.collect_all.Kinds as collect-all-kinds
-use Rattle.carrying.proofs.+collect_all.Lts-collect_all as collect-all-lts
+use Rattle.carrying.proofs.collect_all.Reads as own
+use Rattle.carrying.proofs.collect_all.Kinds as kinds
+use Rattle.carrying.proofs.+collect_all.Lts-collect_all as lts
 use Rattle.carrying.proofs.collect.Reads as collect-reads
 use Rattle.carrying.proofs.+collect_all.{statement}
 use Rattle.carrying.proofs.+collect_all.Tie.{close}
 
-abbrev μ-collect-all : Measures 1 collect-all-kinds.ps ℕ
-μ-collect-all κs a = ?
+abbrev μ : Measures 1 kinds.ps ℕ
+μ κs a = a .1 .1 .1 .1 .0
 
-abbrev collect-all-at : ℕ → In 1 collect-all-kinds.ps
-collect-all-at t =
-    and 1 collect-all-kinds.ps (is 1 collect-all-kinds.ps μ-collect-all t) collect-all.Pre
+module _ (t : ℕ) where
+  abbrev Pre : In 1 kinds.ps
+  Pre = and 1 kinds.ps (is 1 kinds.ps μ t) own.Pre
 
-abbrev collect-all-below : ℕ → In 1 collect-all-kinds.ps
-collect-all-below t =
-    and 1 collect-all-kinds.ps (falls 1 collect-all-kinds.ps _<_ μ-collect-all t) collect-all.Pre
+  abbrev calls : lts.Claims
+  calls = (collect-reads.Asked, collect-reads.Learnt, and 1 kinds.ps (falls 1 kinds.ps _<_ μ t) own.Pre, own.Post)
 
--- src/lib.rt:161:9
-collect-all-returns : (t : ℕ) → collect-all-lts.Need-returns (
-  collect-reads.Asked,
-  collect-reads.Learnt,
-  collect-all-below t,
-  collect-all.Post,
-) (collect-all-at t) collect-all.Post
-collect-all-returns t c = ?
+  -- src/lib.rt:161:9
+  returns : lts.Need-returns calls Pre own.Post
+  returns c = let x = c .before .before in back-none (x .args .s) (x .args .j) (x .args .memory .now) (x .args .i) (x .args .r) (x .args .k) (c .if1 .taken)
 
--- src/lib.rt:163:9
-collect-all-collect-requires : (t : ℕ) → collect-all-lts.Need-collect-requires (
-  collect-reads.Asked,
-  collect-reads.Learnt,
-  collect-all-below t,
-  collect-all.Post,
-) (collect-all-at t) collect-all.Post
-collect-all-collect-requires t c κs = ?
+  -- src/lib.rt:163:9
+  collect-requires : lts.Need-collect-requires calls Pre own.Post
+  collect-requires c κs = let x = c .before .before .before in back-one (x .args .s) (x .args .memory .now) (x .args .j) (x .args .i) (x .args .k) (x .args .r) (x .pre .1) (omega arith)
 
--- src/lib.rt:164:34
-collect-all-sub-collect-all : (t : ℕ) → collect-all-lts.Need-sub-collect-all (
-  collect-reads.Asked,
-  collect-reads.Learnt,
-  collect-all-below t,
-  collect-all.Post,
-) (collect-all-at t) collect-all.Post
-collect-all-sub-collect-all t c = ?
+  -- src/lib.rt:164:34
+  sub-collect-all : lts.Need-sub-collect-all calls Pre own.Post
+  sub-collect-all c = omega arith
 
--- src/lib.rt:164:5
-collect-all-collect-all-requires : (t : ℕ) → collect-all-lts.Need-collect-all-requires (
-  collect-reads.Asked,
-  collect-reads.Learnt,
-  collect-all-below t,
-  collect-all.Post,
-) (collect-all-at t) collect-all.Post
-collect-all-collect-all-requires t c κs = ?
+  -- src/lib.rt:164:5
+  collect-all-requires : lts.Need-collect-all-requires calls Pre own.Post
+  collect-all-requires c κs = let x = c .before .before .before .before .before .before .before in (omega arith, back-next (x .args .s) (x .args .memory .now) (x .args .j) (x .args .i) (x .args .k) (x .args .r) (x .pre .1) (omega arith) (c .before .before .before .collect .ensures))
 
--- src/lib.rt:156:1
-collect-all-same-length : (t : ℕ) → collect-all-lts.Need-same-length (
-  collect-reads.Asked,
-  collect-reads.Learnt,
-  collect-all-below t,
-  collect-all.Post,
-) (collect-all-at t) collect-all.Post
-collect-all-same-length t c = ?
+  -- src/lib.rt:156:1
+  same-length : lts.Need-same-length calls Pre own.Post
+  same-length c = search needs
 
--- src/lib.rt:156:1
-collect-all-returns-2 : (t : ℕ) → collect-all-lts.Need-returns-2 (
-  collect-reads.Asked,
-  collect-reads.Learnt,
-  collect-all-below t,
-  collect-all.Post,
-) (collect-all-at t) collect-all.Post
-collect-all-returns-2 t c = ?
+  -- src/lib.rt:156:1
+  returns-2 : lts.Need-returns-2 calls Pre own.Post
+  returns-2 c = let x = c .before .before .before .before .before .before .before .before .before .before in back-go (x .args .s) (x .args .j) (x .args .memory .now) (x .args .i) (x .args .r) (x .args .k) (omega arith) (c .before .before .before .before .before .before .collect .ensures) (c .before .before .collect-all .ensures)
 
 pub +collect-all-spec : {M : Type 1} → statement M
-+collect-all-spec = close μ-collect-all λ t. collect-all-lts.spec (
-  collect-reads.Asked,
-  collect-reads.Learnt,
-  collect-all-below t,
-  collect-all.Post,
-)
-    (collect-all-at t)
-    collect-all.Post
-    (collect-all-returns t)
-    (collect-all-collect-requires t)
-    (collect-all-sub-collect-all t)
-    (collect-all-collect-all-requires t)
-    (collect-all-same-length t)
-    (collect-all-returns-2 t)
++collect-all-spec = close μ (λ t. lts.spec (calls t) (Pre t) own.Post (returns t) (collect-requires t) (sub-collect-all t) (collect-all-requires t) (same-length t) (returns-2 t))

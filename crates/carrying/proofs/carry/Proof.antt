@@ -1,3 +1,7 @@
+use Rattle.carrying.proofs.Asks.{carry-lent, carry-deliver}
+use Rattle.carrying.proofs.Ways.{stage-stop, stage-go}
+use Rattle.postman.specs.Steps.{carried}
+use mathlib.Core.Path.{_∙_}
 use borrow.Author.Needs.{needs}
 use Rattle.carrying.proofs.carry.Statement.{statement}
 use Rattle.carrying.proofs.carry.Tie as tie
@@ -10,7 +14,7 @@ use Rattle.stages.proofs.copy_in.Reads as copy-in-reads
 
 -- src/lib.rt:105:9
 first-free-requires : tie.Need-first-free-requires
-first-free-requires c κs = ?
+first-free-requires c κs = let x = c .before .before in carry-lent (x .args .s) (x .args .memory .now) (x .args .j) (x .args .i) (x .args .r) (x .pre)
 
 -- src/lib.rt:106:9
 copy-in-requires : tie.Need-copy-in-requires
@@ -33,11 +37,12 @@ same-length c = search needs
 
 -- src/lib.rt:108:9
 returns : tie.Need-returns
-returns c = ?
+unfolding carried
+returns c = stage-stop _ _ (c .before .before .before .before .before .copy-in .ensures) (c .before .enum-told2 .given .1) (c .stop .ensures)
 
 -- src/lib.rt:110:5
 deliver-requires : tie.Need-deliver-requires
-deliver-requires c κs = ?
+deliver-requires c κs = let x = c .before .before .before .before .before .before .before .before .before .before in carry-deliver (x .args .s) (x .args .memory .now) (x .args .j) (x .args .i) (x .args .r) (x .pre) (c .before .before .before .before .before .before .before .first-free .ensures) (c .before .before .before .before .before .copy-in .ensures) (c .before .enum-told .given .1)
 
 -- src/lib.rt:101:1
 same-length-2 : tie.Need-same-length-2
@@ -45,7 +50,8 @@ same-length-2 c = search needs
 
 -- src/lib.rt:101:1
 returns-2 : tie.Need-returns-2
-returns-2 c = ?
+unfolding carried
+returns-2 c = stage-go _ _ (c .before .before .before .before .before .before .before .before .copy-in .ensures) (c .before .before .before .before .enum-told .given .1) (c .before .before .deliver .ensures ∙ rw (c .before .before .before .before .before .before .before .before .before .before .first-free .ensures))
 
 pub carry-spec : {M : Type 1} → statement M
 carry-spec =

@@ -1,3 +1,4 @@
+use Rattle.carrying.proofs.Asks.{gave}
 use borrow.Author.Needs.{needs}
 use Rattle.carrying.proofs.collect.Statement.{statement}
 use Rattle.carrying.proofs.collect.Tie as tie
@@ -20,7 +21,7 @@ same-length c = search needs
 
 -- src/lib.rt:147:1
 returns : tie.Need-returns
-returns c = ?
+returns c = let x = c .before .before .before .before .before .before in gave (x .args .s) (x .args .memory .now) (x .args .j) (x .args .i) (x .args .r) (c .before .before .before .give-back .ensures) (c .blocks-back .ensures)
 
 pub collect-spec : {M : Type 1} → statement M
 collect-spec = tie.close (tie.spec give-back-requires blocks-back-requires same-length returns)

@@ -1,3 +1,7 @@
+use Rattle.carrying.proofs.Asks.{deliver-there, deliver-hand}
+use Rattle.carrying.proofs.Ways.{stage-stop, stage-go}
+use Rattle.postman.specs.Steps.{delivered}
+use mathlib.Core.Path.{_∙_}
 use borrow.Author.Needs.{needs}
 use Rattle.carrying.proofs.deliver.Statement.{statement}
 use Rattle.carrying.proofs.deliver.Tie as tie
@@ -21,7 +25,7 @@ enum-told-2 c = search needs
 
 -- src/lib.rt:94:9
 stop-requires : tie.Need-stop-requires
-stop-requires c κs = ?
+stop-requires c κs = let x = c .before .before .before .before .before .before .before in deliver-there (x .args .s) (x .args .memory .now) (x .args .j) (x .args .i) (x .args .c) (x .args .r) (x .pre)
 
 -- src/lib.rt:94:9
 same-length : tie.Need-same-length
@@ -29,7 +33,8 @@ same-length c = search needs
 
 -- src/lib.rt:94:9
 returns : tie.Need-returns
-returns c = ?
+unfolding delivered
+returns c = stage-stop _ _ (c .before .before .before .before .before .put-task .ensures) (c .before .enum-told2 .given .1) (c .stop .ensures)
 
 -- src/lib.rt:96:9
 one-letter-requires : tie.Need-one-letter-requires
@@ -37,7 +42,7 @@ one-letter-requires c κs = search needs
 
 -- src/lib.rt:97:5
 hand-on-requires : tie.Need-hand-on-requires
-hand-on-requires c κs = ?
+hand-on-requires c κs = let x = c .before .before .before .before .before .before .before .before .before in deliver-hand (x .args .s) (x .args .memory .now) (x .args .j) (x .args .i) (x .args .c) (x .args .r) (x .pre) (c .before .before .before .before .before .before .put-task .ensures) (c .before .before .enum-told .given .1)
 
 -- src/lib.rt:88:1
 same-length-2 : tie.Need-same-length-2
@@ -45,7 +50,8 @@ same-length-2 c = search needs
 
 -- src/lib.rt:88:1
 returns-2 : tie.Need-returns-2
-returns-2 c = ?
+unfolding delivered
+returns-2 c = stage-go _ _ (c .before .before .before .before .before .before .before .before .before .put-task .ensures) (c .before .before .before .before .before .enum-told .given .1) (c .before .before .hand-on .ensures ∙ rw (c .before .before .before .before .one-letter .ensures))
 
 pub deliver-spec : {M : Type 1} → statement M
 deliver-spec =

@@ -1,3 +1,4 @@
+use Rattle.carrying.proofs.Asks.{free-in}
 use borrow.Author.Needs.{needs}
 use Rattle.carrying.proofs.first_free.Statement.{statement}
 use Rattle.carrying.proofs.first_free.Tie as tie
@@ -15,11 +16,11 @@ mul-result c = search needs
 
 -- src/lib.rt:41:5
 shared-slice-read-result : tie.Need-shared-slice-read-result
-shared-slice-read-result c = ?
+shared-slice-read-result c = let x = c .before .before .before in free-in (x .args .s) (x .args .memory .now) (x .args .j) _ (x .pre) (c .before .node-at .ensures .is) .0
 
 -- src/lib.rt:36:1
 returns : tie.Need-returns
-returns c = ?
+returns c = let x = c .before .before .before in free-in (x .args .s) (x .args .memory .now) (x .args .j) _ (x .pre) (c .before .node-at .ensures .is) .1
 
 pub first-free-spec : {M : Type 1} → statement M
 first-free-spec = tie.close (tie.spec node-at-requires mul-result shared-slice-read-result returns)

@@ -1,3 +1,6 @@
+use Rattle.carrying.proofs.Asks.{hand-there, hand-first}
+use Rattle.carrying.proofs.Ways.{stage-stop, stage-go}
+use Rattle.postman.specs.Steps.{handedOn}
 use borrow.Author.Needs.{needs}
 use Rattle.carrying.proofs.hand_on.Statement.{statement}
 use Rattle.carrying.proofs.hand_on.Tie as tie
@@ -20,7 +23,7 @@ enum-told-2 c = search needs
 
 -- src/lib.rt:81:9
 stop-requires : tie.Need-stop-requires
-stop-requires c κs = ?
+stop-requires c κs = let x = c .before .before .before .before .before .before .before in hand-there (x .args .s) (x .args .memory .now) (x .args .j) (x .args .i) (x .pre)
 
 -- src/lib.rt:81:9
 same-length : tie.Need-same-length
@@ -28,11 +31,12 @@ same-length c = search needs
 
 -- src/lib.rt:81:9
 returns : tie.Need-returns
-returns c = ?
+unfolding handedOn
+returns c = stage-stop _ _ (c .before .before .before .before .before .put-ack .ensures) (c .before .enum-told2 .given .1) (c .stop .ensures)
 
 -- src/lib.rt:83:5
 drop-send-requires : tie.Need-drop-send-requires
-drop-send-requires c κs = ?
+drop-send-requires c κs = let x = c .before .before .before .before .before .before .before .before in hand-first (x .args .s) (x .args .memory .now) (x .args .j) (x .args .i) (x .pre) (c .before .before .before .before .before .put-ack .ensures)
 
 -- src/lib.rt:75:1
 same-length-2 : tie.Need-same-length-2
@@ -40,7 +44,8 @@ same-length-2 c = search needs
 
 -- src/lib.rt:75:1
 returns-2 : tie.Need-returns-2
-returns-2 c = ?
+unfolding handedOn
+returns-2 c = stage-go _ _ (c .before .before .before .before .before .before .before .before .put-ack .ensures) (c .before .before .before .before .enum-told .given .1) (rw (c .before .before .drop-send .ensures))
 
 pub hand-on-spec : {M : Type 1} → statement M
 hand-on-spec =

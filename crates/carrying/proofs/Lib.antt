@@ -1,0 +1,4 @@
+pub mod Given
+pub mod Ways
+pub mod Sums
+pub mod Asks
