@@ -1,16 +1,16 @@
 -- The proof of the cycle of calls {carry_all}. Assumes nothing.
-use Rattle.carrying.proofs.Asks.{all-one, all-next}
-use Rattle.carrying.proofs.Ways.{all-none, all-stop, all-go}
-use borrow.Author.Needs.{needs}
-use native.Mathlib.Omega.{arith}
 use Prim.Native.Nat.{ℕ, _<_}
+use native.Mathlib.Omega.{arith}
+use borrow.Author.Needs.{needs}
 use borrow.Fn.Kinds.{In}
 use borrow.Fn.PlainCycle.{Measures, is, falls, and}
+use Rattle.carrying.proofs.Asks.{all-one, all-next}
+use Rattle.carrying.proofs.Ways.{all-none, all-stop, all-go}
+use Rattle.carrying.proofs.carry.Reads as carry-reads
+use Rattle.carrying.proofs.+carry_all.{statement}
 use Rattle.carrying.proofs.carry_all.Reads as own
 use Rattle.carrying.proofs.carry_all.Kinds as kinds
 use Rattle.carrying.proofs.+carry_all.Lts-carry_all as lts
-use Rattle.carrying.proofs.carry.Reads as carry-reads
-use Rattle.carrying.proofs.+carry_all.{statement}
 use Rattle.carrying.proofs.+carry_all.Tie.{close}
 
 abbrev μ : Measures 1 kinds.ps ℕ
@@ -23,42 +23,33 @@ module _ (t : ℕ) where
   abbrev calls : lts.Claims
   calls = (carry-reads.Asked, carry-reads.Learnt, and 1 kinds.ps (falls 1 kinds.ps _<_ μ t) own.Pre, own.Post)
 
-  -- src/lib.rt:119:9
   returns : lts.Need-returns calls Pre own.Post
   returns c = let x = c .before .before in all-none (x .args .s) (x .args .j) (x .args .k) (x .args .memory .now) (x .args .i) (x .args .r) (c .if1 .taken)
 
-  -- src/lib.rt:121:9
   carry-requires : lts.Need-carry-requires calls Pre own.Post
   carry-requires c κs = let x = c .before .before .before in all-one (x .args .s) (x .args .memory .now) (x .args .j) (x .args .i) (x .args .k) (x .args .r) (x .pre .1) (omega arith)
 
   enum-told : lts.Need-enum-told calls Pre own.Post
   enum-told c = search needs
 
-  -- src/lib.rt:124:9
   enum-told-2 : lts.Need-enum-told-2 calls Pre own.Post
   enum-told-2 c = search needs
 
-  -- src/lib.rt:124:9
   same-length : lts.Need-same-length calls Pre own.Post
   same-length c = search needs
 
-  -- src/lib.rt:124:9
   returns-2 : lts.Need-returns-2 calls Pre own.Post
   returns-2 c = let x = c .before .before .before .before .before .before .before .before in all-stop (x .args .s) (x .args .j) (x .args .k) (x .args .memory .now) (x .args .i) (x .args .r) (omega arith) (c .before .before .before .before .carry .ensures) (c .enum-told2 .given .1)
 
-  -- src/lib.rt:126:32
   sub-carry-all : lts.Need-sub-carry-all calls Pre own.Post
   sub-carry-all c = omega arith
 
-  -- src/lib.rt:126:5
   carry-all-requires : lts.Need-carry-all-requires calls Pre own.Post
   carry-all-requires c κs = let x = c .before .before .before .before .before .before .before .before .before in (omega arith, all-next (x .args .s) (x .args .memory .now) (x .args .j) (x .args .i) (x .args .k) (x .args .r) (x .pre .1) (omega arith) (c .before .before .before .before .before .carry .ensures) (c .before .enum-told .given .1))
 
-  -- src/lib.rt:114:1
   same-length-2 : lts.Need-same-length-2 calls Pre own.Post
   same-length-2 c = search needs
 
-  -- src/lib.rt:114:1
   returns-3 : lts.Need-returns-3 calls Pre own.Post
   returns-3 c = let x = c .before .before .before .before .before .before .before .before .before .before .before .before in all-go (x .args .s) (x .args .j) (x .args .k) (x .args .memory .now) (x .args .i) (x .args .r) (omega arith) (c .before .before .before .before .before .before .before .before .carry .ensures) (c .before .before .before .before .enum-told .given .1) (c .before .before .carry-all .ensures)
 

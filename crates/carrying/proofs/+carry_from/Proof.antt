@@ -1,164 +1,61 @@
-use Prim.Native.Nat.{ℕ, _<_}
+-- The proof of the cycle of calls {carry_from}. Assumes nothing.
+use Prim.Native.Nat.{ℕ, _-_, _<_}
+use native.Mathlib.Omega.{arith}
+use borrow.Author.Needs.{needs}
 use borrow.Fn.Kinds.{In}
 use borrow.Fn.PlainCycle.{Measures, is, falls, and}
-use Rattle.carrying.proofs.carry_from.Reads as carry-from
-use Rattle.carrying.proofs.carry_from.Kinds as carry-from-kinds
-use Rattle.carrying.proofs.+carry_from.Lts-carry_from as carry-from-lts
+use Rattle.carrying.proofs.Asks.{from-all, from-next}
+use Rattle.carrying.proofs.Ways.{nodes-none, nodes-stop, nodes-go}
 use Rattle.carrying.proofs.carry_all.Reads as carry-all-reads
 use Rattle.carrying.proofs.letters_for.Reads as letters-for-reads
 use Rattle.carrying.proofs.+carry_from.{statement}
+use Rattle.carrying.proofs.carry_from.Reads as own
+use Rattle.carrying.proofs.carry_from.Kinds as kinds
+use Rattle.carrying.proofs.+carry_from.Lts-carry_from as lts
 use Rattle.carrying.proofs.+carry_from.Tie.{close}
 
-abbrev μ-carry-from : Measures 1 carry-from-kinds.ps ℕ
-μ-carry-from κs a = ?
+abbrev μ : Measures 1 kinds.ps ℕ
+μ κs a = 6 - a .1 .1 .1 .0
 
-abbrev carry-from-at : ℕ → In 1 carry-from-kinds.ps
-carry-from-at t =
-    and 1 carry-from-kinds.ps (is 1 carry-from-kinds.ps μ-carry-from t) carry-from.Pre
+module _ (t : ℕ) where
+  abbrev Pre : In 1 kinds.ps
+  Pre = and 1 kinds.ps (is 1 kinds.ps μ t) own.Pre
 
-abbrev carry-from-below : ℕ → In 1 carry-from-kinds.ps
-carry-from-below t =
-    and 1 carry-from-kinds.ps (falls 1 carry-from-kinds.ps _<_ μ-carry-from t) carry-from.Pre
+  abbrev calls : lts.Claims
+  calls = (letters-for-reads.Asked, letters-for-reads.Learnt, carry-all-reads.Asked, carry-all-reads.Learnt, and 1 kinds.ps (falls 1 kinds.ps _<_ μ t) own.Pre, own.Post)
 
--- src/lib.rt:135:9
-carry-from-returns : (t : ℕ) → carry-from-lts.Need-returns (
-  letters-for-reads.Asked,
-  letters-for-reads.Learnt,
-  carry-all-reads.Asked,
-  carry-all-reads.Learnt,
-  carry-from-below t,
-  carry-from.Post,
-) (carry-from-at t) carry-from.Post
-carry-from-returns t c = ?
+  returns : lts.Need-returns calls Pre own.Post
+  returns c = let x = c .before .before in nodes-none (x .args .s) (x .args .j) (x .args .memory .now) (x .args .i) (x .args .r) (c .if1 .taken)
 
--- src/lib.rt:137:9
-carry-from-letters-for-requires : (t : ℕ) → carry-from-lts.Need-letters-for-requires (
-  letters-for-reads.Asked,
-  letters-for-reads.Learnt,
-  carry-all-reads.Asked,
-  carry-all-reads.Learnt,
-  carry-from-below t,
-  carry-from.Post,
-) (carry-from-at t) carry-from.Post
-carry-from-letters-for-requires t c κs = ?
+  letters-for-requires : lts.Need-letters-for-requires calls Pre own.Post
+  letters-for-requires c κs = let x = c .before .before .before in (x .pre .1 .stands, omega arith)
 
--- src/lib.rt:138:9
-carry-from-carry-all-requires : (t : ℕ) → carry-from-lts.Need-carry-all-requires (
-  letters-for-reads.Asked,
-  letters-for-reads.Learnt,
-  carry-all-reads.Asked,
-  carry-all-reads.Learnt,
-  carry-from-below t,
-  carry-from.Post,
-) (carry-from-at t) carry-from.Post
-carry-from-carry-all-requires t c κs = ?
+  carry-all-requires : lts.Need-carry-all-requires calls Pre own.Post
+  carry-all-requires c κs = let x = c .before .before .before .before .before in from-all (x .args .s) (x .args .memory .now) (x .args .j) (x .args .i) (x .args .r) (x .pre .1) (omega arith) (c .before .letters-for .ensures)
 
-carry-from-enum-told : (t : ℕ) → carry-from-lts.Need-enum-told (
-  letters-for-reads.Asked,
-  letters-for-reads.Learnt,
-  carry-all-reads.Asked,
-  carry-all-reads.Learnt,
-  carry-from-below t,
-  carry-from.Post,
-) (carry-from-at t) carry-from.Post
-carry-from-enum-told t c = ?
+  enum-told : lts.Need-enum-told calls Pre own.Post
+  enum-told c = search needs
 
--- src/lib.rt:141:9
-carry-from-enum-told-2 : (t : ℕ) → carry-from-lts.Need-enum-told-2 (
-  letters-for-reads.Asked,
-  letters-for-reads.Learnt,
-  carry-all-reads.Asked,
-  carry-all-reads.Learnt,
-  carry-from-below t,
-  carry-from.Post,
-) (carry-from-at t) carry-from.Post
-carry-from-enum-told-2 t c = ?
+  enum-told-2 : lts.Need-enum-told-2 calls Pre own.Post
+  enum-told-2 c = search needs
 
--- src/lib.rt:141:9
-carry-from-same-length : (t : ℕ) → carry-from-lts.Need-same-length (
-  letters-for-reads.Asked,
-  letters-for-reads.Learnt,
-  carry-all-reads.Asked,
-  carry-all-reads.Learnt,
-  carry-from-below t,
-  carry-from.Post,
-) (carry-from-at t) carry-from.Post
-carry-from-same-length t c = ?
+  same-length : lts.Need-same-length calls Pre own.Post
+  same-length c = search needs
 
--- src/lib.rt:141:9
-carry-from-returns-2 : (t : ℕ) → carry-from-lts.Need-returns-2 (
-  letters-for-reads.Asked,
-  letters-for-reads.Learnt,
-  carry-all-reads.Asked,
-  carry-all-reads.Learnt,
-  carry-from-below t,
-  carry-from.Post,
-) (carry-from-at t) carry-from.Post
-carry-from-returns-2 t c = ?
+  returns-2 : lts.Need-returns-2 calls Pre own.Post
+  returns-2 c = let x = c .before .before .before .before .before .before .before .before .before .before in nodes-stop (x .args .s) (x .args .j) (x .args .memory .now) (x .args .i) (x .args .r) (omega arith) (c .before .before .before .before .before .before .letters-for .ensures) (c .before .before .before .before .carry-all .ensures) (c .enum-told2 .given .1)
 
--- src/lib.rt:143:30
-carry-from-add-carry-from : (t : ℕ) → carry-from-lts.Need-add-carry-from (
-  letters-for-reads.Asked,
-  letters-for-reads.Learnt,
-  carry-all-reads.Asked,
-  carry-all-reads.Learnt,
-  carry-from-below t,
-  carry-from.Post,
-) (carry-from-at t) carry-from.Post
-carry-from-add-carry-from t c = ?
+  add-carry-from : lts.Need-add-carry-from calls Pre own.Post
+  add-carry-from c = omega arith
 
--- src/lib.rt:143:5
-carry-from-carry-from-requires : (t : ℕ) → carry-from-lts.Need-carry-from-requires (
-  letters-for-reads.Asked,
-  letters-for-reads.Learnt,
-  carry-all-reads.Asked,
-  carry-all-reads.Learnt,
-  carry-from-below t,
-  carry-from.Post,
-) (carry-from-at t) carry-from.Post
-carry-from-carry-from-requires t c κs = ?
+  carry-from-requires : lts.Need-carry-from-requires calls Pre own.Post
+  carry-from-requires c κs = let x = c .before .before .before .before .before .before .before .before .before .before .before in (omega arith, from-next (x .args .s) (x .args .memory .now) (x .args .j) (x .args .i) (x .args .r) (x .pre .1) (omega arith) (c .before .before .before .before .before .before .before .letters-for .ensures) (c .before .before .before .before .before .carry-all .ensures) (c .before .enum-told .given .1))
 
--- src/lib.rt:130:1
-carry-from-same-length-2 : (t : ℕ) → carry-from-lts.Need-same-length-2 (
-  letters-for-reads.Asked,
-  letters-for-reads.Learnt,
-  carry-all-reads.Asked,
-  carry-all-reads.Learnt,
-  carry-from-below t,
-  carry-from.Post,
-) (carry-from-at t) carry-from.Post
-carry-from-same-length-2 t c = ?
+  same-length-2 : lts.Need-same-length-2 calls Pre own.Post
+  same-length-2 c = search needs
 
--- src/lib.rt:130:1
-carry-from-returns-3 : (t : ℕ) → carry-from-lts.Need-returns-3 (
-  letters-for-reads.Asked,
-  letters-for-reads.Learnt,
-  carry-all-reads.Asked,
-  carry-all-reads.Learnt,
-  carry-from-below t,
-  carry-from.Post,
-) (carry-from-at t) carry-from.Post
-carry-from-returns-3 t c = ?
+  returns-3 : lts.Need-returns-3 calls Pre own.Post
+  returns-3 c = let x = c .before .before .before .before .before .before .before .before .before .before .before .before .before .before in nodes-go (x .args .s) (x .args .j) (x .args .memory .now) (x .args .i) (x .args .r) (omega (arith, c .before .before .before .before .before .before .before .before .before .before .before .before .if1 .left)) (c .before .before .before .before .before .before .before .before .before .before .letters-for .ensures) (c .before .before .before .before .before .before .before .before .carry-all .ensures) (c .before .before .before .before .enum-told .given .1) (c .before .before .carry-from .ensures)
 
 pub +carry-from-spec : {M : Type 1} → statement M
-+carry-from-spec = close μ-carry-from λ t. carry-from-lts.spec (
-  letters-for-reads.Asked,
-  letters-for-reads.Learnt,
-  carry-all-reads.Asked,
-  carry-all-reads.Learnt,
-  carry-from-below t,
-  carry-from.Post,
-)
-    (carry-from-at t)
-    carry-from.Post
-    (carry-from-returns t)
-    (carry-from-letters-for-requires t)
-    (carry-from-carry-all-requires t)
-    (carry-from-enum-told t)
-    (carry-from-enum-told-2 t)
-    (carry-from-same-length t)
-    (carry-from-returns-2 t)
-    (carry-from-add-carry-from t)
-    (carry-from-carry-from-requires t)
-    (carry-from-same-length-2 t)
-    (carry-from-returns-3 t)
++carry-from-spec = close μ (λ t. lts.spec (calls t) (Pre t) own.Post (returns t) (letters-for-requires t) (carry-all-requires t) (enum-told t) (enum-told-2 t) (same-length t) (returns-2 t) (add-carry-from t) (carry-from-requires t) (same-length-2 t) (returns-3 t))

@@ -1,121 +1,49 @@
-use Prim.Native.Nat.{ℕ, _<_}
+-- The proof of the cycle of calls {collect_from}. Assumes nothing.
+use Prim.Native.Nat.{ℕ, _-_, _<_}
+use native.Mathlib.Omega.{arith}
+use borrow.Author.Needs.{needs}
 use borrow.Fn.Kinds.{In}
 use borrow.Fn.PlainCycle.{Measures, is, falls, and}
-use Rattle.carrying.proofs.collect_from.Reads as collect-from
-use Rattle.carrying.proofs.collect_from.Kinds as collect-from-kinds
-use Rattle.carrying.proofs.+collect_from.Lts-collect_from as collect-from-lts
+use Rattle.carrying.proofs.Asks.{backs-all, backs-next}
+use Rattle.carrying.proofs.Ways.{backs-none, backs-go}
 use Rattle.carrying.proofs.acks_for.Reads as acks-for-reads
 use Rattle.carrying.proofs.collect_all.Reads as collect-all-reads
 use Rattle.carrying.proofs.+collect_from.{statement}
+use Rattle.carrying.proofs.collect_from.Reads as own
+use Rattle.carrying.proofs.collect_from.Kinds as kinds
+use Rattle.carrying.proofs.+collect_from.Lts-collect_from as lts
 use Rattle.carrying.proofs.+collect_from.Tie.{close}
 
-abbrev μ-collect-from : Measures 1 collect-from-kinds.ps ℕ
-μ-collect-from κs a = ?
+abbrev μ : Measures 1 kinds.ps ℕ
+μ κs a = 6 - a .1 .1 .1 .0
 
-abbrev collect-from-at : ℕ → In 1 collect-from-kinds.ps
-collect-from-at t =
-    and 1 collect-from-kinds.ps (is 1 collect-from-kinds.ps μ-collect-from t) collect-from.Pre
+module _ (t : ℕ) where
+  abbrev Pre : In 1 kinds.ps
+  Pre = and 1 kinds.ps (is 1 kinds.ps μ t) own.Pre
 
-abbrev collect-from-below : ℕ → In 1 collect-from-kinds.ps
-collect-from-below t =
-    and
-    1
-    collect-from-kinds.ps
-    (falls 1 collect-from-kinds.ps _<_ μ-collect-from t)
-    collect-from.Pre
+  abbrev calls : lts.Claims
+  calls = (acks-for-reads.Asked, acks-for-reads.Learnt, collect-all-reads.Asked, collect-all-reads.Learnt, and 1 kinds.ps (falls 1 kinds.ps _<_ μ t) own.Pre, own.Post)
 
--- src/lib.rt:173:9
-collect-from-returns : (t : ℕ) → collect-from-lts.Need-returns (
-  acks-for-reads.Asked,
-  acks-for-reads.Learnt,
-  collect-all-reads.Asked,
-  collect-all-reads.Learnt,
-  collect-from-below t,
-  collect-from.Post,
-) (collect-from-at t) collect-from.Post
-collect-from-returns t c = ?
+  returns : lts.Need-returns calls Pre own.Post
+  returns c = let x = c .before .before in backs-none (x .args .s) (x .args .j) (x .args .memory .now) (x .args .i) (x .args .r) (c .if1 .taken)
 
--- src/lib.rt:175:9
-collect-from-acks-for-requires : (t : ℕ) → collect-from-lts.Need-acks-for-requires (
-  acks-for-reads.Asked,
-  acks-for-reads.Learnt,
-  collect-all-reads.Asked,
-  collect-all-reads.Learnt,
-  collect-from-below t,
-  collect-from.Post,
-) (collect-from-at t) collect-from.Post
-collect-from-acks-for-requires t c κs = ?
+  acks-for-requires : lts.Need-acks-for-requires calls Pre own.Post
+  acks-for-requires c κs = let x = c .before .before .before in (x .pre .1 .stands, omega arith)
 
--- src/lib.rt:176:9
-collect-from-collect-all-requires : (t : ℕ) → collect-from-lts.Need-collect-all-requires (
-  acks-for-reads.Asked,
-  acks-for-reads.Learnt,
-  collect-all-reads.Asked,
-  collect-all-reads.Learnt,
-  collect-from-below t,
-  collect-from.Post,
-) (collect-from-at t) collect-from.Post
-collect-from-collect-all-requires t c κs = ?
+  collect-all-requires : lts.Need-collect-all-requires calls Pre own.Post
+  collect-all-requires c κs = let x = c .before .before .before .before .before in backs-all (x .args .s) (x .args .memory .now) (x .args .j) (x .args .i) (x .args .r) (x .pre .1) (omega arith) (c .before .acks-for .ensures)
 
--- src/lib.rt:177:32
-collect-from-add-collect-from : (t : ℕ) → collect-from-lts.Need-add-collect-from (
-  acks-for-reads.Asked,
-  acks-for-reads.Learnt,
-  collect-all-reads.Asked,
-  collect-all-reads.Learnt,
-  collect-from-below t,
-  collect-from.Post,
-) (collect-from-at t) collect-from.Post
-collect-from-add-collect-from t c = ?
+  add-collect-from : lts.Need-add-collect-from calls Pre own.Post
+  add-collect-from c = omega arith
 
--- src/lib.rt:177:5
-collect-from-collect-from-requires : (t : ℕ) → collect-from-lts.Need-collect-from-requires (
-  acks-for-reads.Asked,
-  acks-for-reads.Learnt,
-  collect-all-reads.Asked,
-  collect-all-reads.Learnt,
-  collect-from-below t,
-  collect-from.Post,
-) (collect-from-at t) collect-from.Post
-collect-from-collect-from-requires t c κs = ?
+  collect-from-requires : lts.Need-collect-from-requires calls Pre own.Post
+  collect-from-requires c κs = let x = c .before .before .before .before .before .before .before .before .before in (omega arith, backs-next (x .args .s) (x .args .memory .now) (x .args .j) (x .args .i) (x .args .r) (x .pre .1) (omega arith) (c .before .before .before .before .before .acks-for .ensures) (c .before .before .before .collect-all .ensures))
 
--- src/lib.rt:168:1
-collect-from-same-length : (t : ℕ) → collect-from-lts.Need-same-length (
-  acks-for-reads.Asked,
-  acks-for-reads.Learnt,
-  collect-all-reads.Asked,
-  collect-all-reads.Learnt,
-  collect-from-below t,
-  collect-from.Post,
-) (collect-from-at t) collect-from.Post
-collect-from-same-length t c = ?
+  same-length : lts.Need-same-length calls Pre own.Post
+  same-length c = search needs
 
--- src/lib.rt:168:1
-collect-from-returns-2 : (t : ℕ) → collect-from-lts.Need-returns-2 (
-  acks-for-reads.Asked,
-  acks-for-reads.Learnt,
-  collect-all-reads.Asked,
-  collect-all-reads.Learnt,
-  collect-from-below t,
-  collect-from.Post,
-) (collect-from-at t) collect-from.Post
-collect-from-returns-2 t c = ?
+  returns-2 : lts.Need-returns-2 calls Pre own.Post
+  returns-2 c = let x = c .before .before .before .before .before .before .before .before .before .before .before .before in backs-go (x .args .s) (x .args .j) (x .args .memory .now) (x .args .i) (x .args .r) (omega (arith, c .before .before .before .before .before .before .before .before .before .before .if1 .left)) (c .before .before .before .before .before .before .before .before .acks-for .ensures) (c .before .before .before .before .before .before .collect-all .ensures) (c .before .before .collect-from .ensures)
 
 pub +collect-from-spec : {M : Type 1} → statement M
-+collect-from-spec = close μ-collect-from λ t. collect-from-lts.spec (
-  acks-for-reads.Asked,
-  acks-for-reads.Learnt,
-  collect-all-reads.Asked,
-  collect-all-reads.Learnt,
-  collect-from-below t,
-  collect-from.Post,
-)
-    (collect-from-at t)
-    collect-from.Post
-    (collect-from-returns t)
-    (collect-from-acks-for-requires t)
-    (collect-from-collect-all-requires t)
-    (collect-from-add-collect-from t)
-    (collect-from-collect-from-requires t)
-    (collect-from-same-length t)
-    (collect-from-returns-2 t)
++collect-from-spec = close μ (λ t. lts.spec (calls t) (Pre t) own.Post (returns t) (acks-for-requires t) (collect-all-requires t) (add-collect-from t) (collect-from-requires t) (same-length t) (returns-2 t))
