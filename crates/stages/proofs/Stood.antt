@@ -89,6 +89,17 @@ module _ (m : List ℕ) (e : sound m ≡ true) (i : ℕ) (h : i < 6) where
       let f = leb-true (otherOf m i) 5 (c .0) in
       (omega arith, leb-true 1 (length (sendItems s m (otherOf m i) i)) (d .1))
 
+  -- stage 3 is the last, and 'only stage 2 holds a block (else 0)'
+  last : 3 ≤ stageOf m i → (stageOf m i ≡ 3) × (heldOf m i ≡ 0)
+  unfolding rightPosition
+  last l =
+      let a : leb (stageOf m i) 3 && (namesOther s m i && cond (eqb (stageOf m i) 2) (leb 1 (heldOf m i) && (leb (heldOf m i) (s .m) && holdsCopy s m i)) (eqb (heldOf m i) 0)) ≡ true =
+      rw (ne-eqb (stageOf m i) 0 (λ y. omega arith)) at (gives-position m e i h) in
+      let b = and-true (leb (stageOf m i) 3) _ a in
+      let f = leb-true (stageOf m i) 3 (b .0) in
+      let c : eqb (heldOf m i) 0 ≡ true = rw (ne-eqb (stageOf m i) 2 (λ y. omega arith)) at (and-true (namesOther s m i) _ (b .1) .1) in
+      (omega arith, eqb-true (heldOf m i) 0 c)
+
 -- ---- the position that was put
 module _ (m : List ℕ) (j : ℕ) (p : Position) (h : j < 6) (l : nodesAt ≤ length m) where
   abbrev a : ℕ
@@ -205,3 +216,11 @@ module _ (s : Settings) (m : List ℕ) (j stage i c : ℕ) (g : Stands s m j (at
       let q =
       subst (λ (x : ℕ). (x < 6) × (1 ≤ length (sendItems (settingsIn (standing m j p)) (standing m j p) x j))) (other-is m j p (g .postman) f) r in
       over s m j p g (λ (z : Settings) (w : ℕ → List ℕ) (t : List ℕ). (i < 6) × (1 ≤ length (contents (sendKind z) (w i) (sendAt z j)))) q
+
+  pub stood-last : 3 ≤ stage → (stage ≡ 3) × (c ≡ 0)
+  stood-last l =
+      let p : Position = at stage i c in
+      let f = stood-long s m j p g in
+      let v = stage-is m j p (g .postman) f in
+      let r = last (standing m j p) (g .holds) j (g .postman) (omega arith) in
+      (sym v ∙ r .0, sym (held-is m j p (g .postman) f) ∙ r .1)
