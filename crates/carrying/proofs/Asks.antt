@@ -25,11 +25,11 @@ use Rattle.postman.specs.Position.{at, atRest}
 use Rattle.postman.specs.Round.{Did, did, Post, post, onStage, into, blocksBack}
 use Rattle.postman.specs.Asked.{Stands, Waits, Owes}
 use Rattle.postman.specs.Steps.{firstOf, spaceOf, copiedIn, queued, acknowledged, carried, carriedAll, collected, collectedAll, collectedFrom}
+use Rattle.stages_keep.proofs.Laws.{copied-stands, queued-stands, carried-next, carried-all, collected-next, names-in, names-apart, names-waits}
 use Rattle.stages.specs.Asked.{Lent, HasQueue, HasFirst, Holds, GaveBack}
-use Rattle.stages.proofs.Stood.{stood-sized, stood-lent, stood-stretch, stood-send, stood-ack, stood-other, stood-names}
+use Rattle.stages.proofs.Stood.{stood-sized, stood-lent, stood-stretch, stood-send, stood-ack}
 use Rattle.stages.proofs.Copying.{with-sized}
 use Rattle.carrying.specs.Asked.{Delivers, Carries, CarriesFrom, Collects, CollectsFrom}
-use Rattle.carrying.proofs.Given.{copied-stands, queued-stands, carried-next, carried-all, collected-next}
 use Rattle.carrying.proofs.Sums.{carried-most, all-most, collected-back, all-back}
 
 -- ---- node j's first word
@@ -80,7 +80,7 @@ went s j p q {d} {m} {h} e t x =
 -- stage 3: the send item is still there
 module _ (s : Settings) (m : List ℕ) (j i : ℕ) (g : Stands s m j (at 3 i 0)) where
   names : (i < 6) × (1 ≤ length (sendItems s m i j))
-  names = stood-names s m j 3 i 0 g (omega arith)
+  names = (names-in s m j i 3 0 g (omega arith), names-waits s m j i 3 0 g (omega arith))
 
   pub hand-there : i < nodes
   hand-there = names .0
@@ -95,7 +95,7 @@ module _ (s : Settings) (m : List ℕ) (j i : ℕ) (g : Stands s m j (at 3 i 0))
       let l = length-appended (ackKind s) (node s m j) (ackAt s i) (firstOf s j m i) ∙ stood-stretch s m j (at 3 i 0) g j (g .postman) .long in
       let f : m₁ ≡ withNode s m j u = ap (λ (d : Did). d .memory) e in
       let n : node s m₁ i ≡ node s m i =
-      rw f (with-node s m (z .long) j (g .postman) u l i ∙ put-other (node s m) j u i (stood-other s m j (at 3 i 0) g i (names .0) j (g .postman) (names .1))) in
+      rw f (with-node s m (z .long) j (g .postman) u l i ∙ put-other (node s m) j u i (names-apart s m j i 3 0 g (omega arith))) in
       record {
         lent = record { sized = rw f (with-sized s m z j (g .postman) u l); there = names .0 };
         own = g .postman;
@@ -106,7 +106,7 @@ module _ (s : Settings) (m : List ℕ) (j i : ℕ) (g : Stands s m j (at 3 i 0))
 -- stage 2
 module _ (s : Settings) (m : List ℕ) (j i c : ℕ) (r : Round) (g : Delivers s m j i c r) where
   pub deliver-there : i < nodes
-  deliver-there = stood-names s m j 2 i c (g .stands) (omega arith) .0
+  deliver-there = names-in s m j i 2 c (g .stands) (omega arith)
 
   pub deliver-hand : {m₁ : List ℕ} {h : Stage} → did m₁ h ≡ queued s j m c → h ≡ Done → Stands s m₁ j (at 3 i 0)
   deliver-hand e t = went s j (at 2 i c) (at 3 i 0) e t (queued-stands s m j i c (g .stands))

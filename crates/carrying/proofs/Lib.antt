@@ -1,4 +1,3 @@
-pub mod Given
 pub mod Ways
 pub mod Sums
 pub mod Asks

@@ -73,13 +73,13 @@ module _ (s : Settings) (l : List ℕ) (st : Stretch s l) where
 
   -- a letter
   module _ (table : List ℕ) (i p : ℕ) (L : Letter) (h : Held s (rows s l) L) (v : Live L → Right table i p (L .words)) (few : (x : ℕ) → occurs x (L .chain) ≤ occurs x (downFrom (s .m))) where
-    chain-is : chainFrom s l (first L) ≡ L .chain
+    pub chain-is : chainFrom s l (first L) ≡ L .chain
     chain-is = chain-back (first L) (L .chain) (h .leads) few
 
     text-is : text s l (chainFrom s l (first L)) ≡ textIn (s .b) (rows s l) (L .chain)
     text-is = ap (text s l) chain-is ∙ text-rows s r l (L .chain) (λ x o. in-c (first L) (L .chain) (h .leads) few x o .0)
 
-    told-is : toldLength s l (first L) ≡ length (L .words)
+    pub told-is : toldLength s l (first L) ≡ length (L .words)
     told-is =
         ap (λ (t : List ℕ). getD t 4 0) text-is
         ∙ ⊎-elim
@@ -96,7 +96,7 @@ module _ (s : Settings) (l : List ℕ) (st : Stretch s l) where
         nothing [] z = refl
         nothing (x ∷ c) z = absurd (omega arith)
 
-    words-is : wordsFrom s l (first L) ≡ L .words
+    pub words-is : wordsFrom s l (first L) ≡ L .words
     unfolding wordsFrom
     words-is = ap₂ (λ (n : ℕ) (t : List ℕ). take n t) told-is text-is ∙ h .reads
 

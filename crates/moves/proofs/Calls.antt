@@ -63,7 +63,7 @@ module _ (s : Settings) (memory : List ℕ) (size : length memory ≡ memorySize
     abbrev L : Letter
     L = record { chain = take (needs s (length ws)) (N i .free); words = ws }
 
-    first-is : first L ≡ f
+    pub first-is : getD (take (needs s (length ws)) (N i .free)) 0 0 ≡ getD (node s memory i) firstFreeAt 0
     first-is =
         getD-take n (N i .free) 0 0 some
         ∙ ap (λ (c : List ℕ). getD c 0 0) (sym (gives-list s memory size N core i h))

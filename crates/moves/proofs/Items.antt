@@ -1,12 +1,12 @@
 -- Letters of a task queue and its items: gaps left out, gaps at the front left out, one letter taken out. Assumes nothing.
 use mathlib.Core.Path.{_≡_, refl, ap}
 use mathlib.Core.Bool.{true}
-use mathlib.Core.List.{List, [], _∷_}
+use mathlib.Core.List.{List, [], _∷_, _++_}
 use Prim.Native.Nat.{ℕ, zero, suc, _+_, _<_}
 use native.Mathlib.Omega.{arith}
 use lib.Dec.{eqb}
 use lib.ListN.{length, getD, set}
-use borrow.Author.Tests.{eqb-true}
+use borrow.Author.Tests.{eqb-true, ne-eqb}
 use Rattle.words.specs.Count.{hit, occurs}
 use Rattle.words.proofs.Count.{hit-self}
 use Rattle.words.proofs.Lists.{split}
@@ -41,6 +41,17 @@ many-live b (L ∷ ls) o =
     split (eqb (first L) 0)
     (λ t. rw t (omega (arith, many-live b ls (omega arith), gone b L t (omega arith))))
     (λ t. rw t (omega (arith, many-live b ls (omega arith))))
+
+-- a live one behind the last, and gaps left out twice
+pub live-more : (xs : List Letter) (L : Letter) → (first L ≡ 0 → ⊥) → liveOnes (xs ++ L ∷ []) ≡ liveOnes xs ++ L ∷ []
+unfolding liveOnes
+live-more [] L n = rw (ne-eqb (first L) 0 n)
+live-more (x ∷ xs) L n = split (eqb (first x) 0) (λ e. rw e (live-more xs L n)) (λ e. rw e (ap (λ (l : List Letter). x ∷ l) (live-more xs L n)))
+
+pub live-twice : (xs : List Letter) → liveOnes (liveOnes xs) ≡ liveOnes xs
+unfolding liveOnes
+live-twice [] = refl
+live-twice (x ∷ xs) = split (eqb (first x) 0) (λ e. rw e (live-twice xs)) (λ e. rw e (rw e (ap (λ (l : List Letter). x ∷ l) (live-twice xs))))
 
 -- ---- gaps at the front left out
 pub firsts-after : (ls : List Letter) → firsts (afterGaps ls) ≡ afterZeroes (firsts ls)

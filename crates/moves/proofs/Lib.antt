@@ -11,3 +11,6 @@ pub mod Calls
 pub mod Formed
 pub mod Works
 pub mod Kept
+pub mod Seats
+pub mod Rising
+pub mod Hands

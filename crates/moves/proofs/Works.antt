@@ -49,7 +49,7 @@ use Rattle.moves.proofs.Words.{give-row, appended-row, dropped-row, ack
 use Rattle.moves.proofs.Formed.{Fit, order-put, flags-put, working-put}
 
 -- a letter needs a block at least
-needs-some : (s : Settings) → InRange s → (n : ℕ) → 1 ≤ n → 1 ≤ needs s n
+pub needs-some : (s : Settings) → InRange s → (n : ℕ) → 1 ≤ n → 1 ≤ needs s n
 needs-some s r n h = go (needs s n) (needs-enough s r n)
   where
     go : (k : ℕ) → n ≤ k * (s .b - 1) → 1 ≤ k

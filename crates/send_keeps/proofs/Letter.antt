@@ -14,7 +14,7 @@ use Rattle.sound.specs.Queues.{taskOf}
 use Rattle.sound.specs.Letters.{rightHeader, fromTo, rightPlace}
 use Rattle.posting.specs.Letter.{letterOf, headerOf}
 use Rattle.machine.specs.Represents.{Right}
-use Rattle.send_keeps.proofs.Seats.{task-is}
+use Rattle.moves.proofs.Seats.{task-is}
 
 pub letter-long : (table : List ℕ) (source destination : ℕ) (body : List ℕ) → length (letterOf (headerOf table source destination) body) ≡ 5 + length body
 unfolding letterOf

@@ -1,4 +1,3 @@
-pub mod Seats
 pub mod Letter
 pub mod After
 pub mod Refused

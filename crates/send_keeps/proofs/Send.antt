@@ -42,34 +42,18 @@ use Rattle.machine.proofs.Sound.{sound-represents}
 use Rattle.machine.proofs.Gives.{gives-stretch}
 use Rattle.moves.specs.Letters.{liveOnes}
 use Rattle.moves.proofs.Made.{placed}
+use Rattle.moves.proofs.Items.{live-more, live-twice}
 use Rattle.moves.proofs.Queues.{length-counted}
 use Rattle.moves.proofs.Formed.{withNodes, at-here, at-other}
+use Rattle.moves.proofs.Works.{needs-some}
 use Rattle.moves.proofs.Kept.{send-task-kept, send-gap-kept, send-queue-kept}
 use Rattle.machine.specs.Same.{Fixed, Unchanged}
 use Rattle.send_keeps.specs.Sends.{placeOf, newLetter, Sends, Change, Allowed}
-use Rattle.send_keeps.proofs.Seats.{bound-some, task-is}
+use Rattle.moves.proofs.Seats.{bound-some, task-is}
 use Rattle.send_keeps.proofs.Letter.{letter-long, right-task, right-send}
 use Rattle.send_keeps.proofs.After.{new-sound, new-fixed, new-stands, new-free, new-letters}
 use Rattle.send_keeps.proofs.Refused.{room-keeps, task-full-keeps, send-full-keeps}
 use Rattle.send_keeps.proofs.Done.{laidIn, begins, send-long, task-long, send-less, task-cases}
-
--- ---- live letters
-live-more : (xs : List Letter) (L : Letter) → (first L ≡ 0 → ⊥) → liveOnes (xs ++ L ∷ []) ≡ liveOnes xs ++ L ∷ []
-unfolding liveOnes
-live-more [] L n = rw (ne-eqb (first L) 0 n)
-live-more (x ∷ xs) L n = split (eqb (first x) 0) (λ e. rw e (live-more xs L n)) (λ e. rw e (ap (λ (l : List Letter). x ∷ l) (live-more xs L n)))
-
-live-twice : (xs : List Letter) → liveOnes (liveOnes xs) ≡ liveOnes xs
-unfolding liveOnes
-live-twice [] = refl
-live-twice (x ∷ xs) = split (eqb (first x) 0) (λ e. rw e (live-twice xs)) (λ e. rw e (rw e (ap (λ (l : List Letter). x ∷ l) (live-twice xs))))
-
-needs-one : (s : Settings) → InRange s → (n : ℕ) → 1 ≤ n → 1 ≤ needs s n
-needs-one s r n h = let e = needs-enough s r n in some (needs s n) (s .b - 1) (omega arith)
-  where
-    some : (k j : ℕ) → 1 ≤ k * j → 1 ≤ k
-    some zero j h = absurd (omega (arith, zero-mul j))
-    some (suc k) j h = omega arith
 
 same-machine : (m : Machine) → Unchanged m m
 same-machine m =
@@ -123,7 +107,7 @@ module _ (memory : List ℕ) (e : sound memory ≡ true) where
     Good goal o = Safe (o .memory) × Change m (machineOf (o .memory)) i (placeOf goal) ws (o .answer)
 
     some : 1 ≤ n
-    some = needs-one s (rep .core .range) (length ws) five
+    some = needs-some s (rep .core .range) (length ws) five
 
     has-blocks : enough s l n ≡ true → n ≤ length (m .node i .free)
     unfolding enough nodeFrom

@@ -30,8 +30,9 @@ use Rattle.postman.specs.Position.{at}
 use Rattle.postman.specs.Round.{Did, did}
 use Rattle.postman.specs.Asked.{Stands}
 use Rattle.postman.specs.Steps.{onAppend, firstOf, queueFor, queued, acknowledged}
+use Rattle.stages_keep.proofs.Laws.{names-in, names-waits}
 use Rattle.stages.specs.Asked.{Lent, Begins, Addressed, HasQueue, HasTaskQueue, HasFirst, Holds}
-use Rattle.stages.proofs.Stood.{stood-lent, stood-sized, stood-table, stood-send, stood-ack, stood-task, stood-held, stood-names}
+use Rattle.stages.proofs.Stood.{stood-lent, stood-sized, stood-table, stood-send, stood-ack, stood-task, stood-held}
 
 pub append-full : (a : Appended) (n : ℕ) → a ≡ Appended-full → Stopped n ≡ onAppend a n
 append-full a n e = rw e
@@ -95,7 +96,7 @@ module _ (s : Settings) (m : List ℕ) (j c : ℕ) (h : Holds s m j c) where
 -- ---- stage 3
 module _ (s : Settings) (m : List ℕ) (j i : ℕ) (g : Stands s m j (at 3 i 0)) where
   names : (i < 6) × (1 ≤ length (sendItems s m i j))
-  names = stood-names s m j 3 i 0 g (omega arith)
+  names = (names-in s m j i 3 0 g (omega arith), names-waits s m j i 3 0 g (omega arith))
 
   pub stands-range : InRange s × (i < 6)
   stands-range = (stood-sized s m j (at 3 i 0) g .range, names .0)

@@ -31,7 +31,7 @@ use Rattle.sound.proofs.Held.{Right, right-parts, gives-at, send-right}
 use Rattle.postman.specs.declared.Position.{Position}
 use Rattle.postman.specs.Position.{standing, at}
 use Rattle.postman.specs.Asked.{Stands}
-use Rattle.stages.proofs.Given.{stand-node, stand-table, stand-settings, stand-length}
+use Rattle.stages_keep.proofs.Standing.{stand-node, stand-table, stand-settings, stand-length, stand-stage, stand-held}
 use Rattle.stages.specs.Asked.{Lent}
 
 -- ---- more of what a sound memory gives
@@ -77,18 +77,6 @@ module _ (m : List ℕ) (e : sound m ≡ true) (i : ℕ) (h : i < 6) where
       let a : all (test 0) (heldOf m i ∷ []) ≡ true = rw (eq-eqb (stageOf m i) 2 two) at (gives-at m e i h 0 (omega arith)) in
       right-parts s (node s m i) (tableIn m) i 0 (heldOf m i) (all-head (test 0) (heldOf m i) [] a .0)
 
-  -- 'stages 1, 2 and 3 name another node whose send queue to this one has an item'
-  named : 1 ≤ stageOf m i → (otherOf m i < 6) × (1 ≤ length (sendItems s m (otherOf m i) i))
-  unfolding rightPosition namesOther
-  named l =
-      let a : leb (stageOf m i) 3 && (namesOther s m i && cond (eqb (stageOf m i) 2) (leb 1 (heldOf m i) && (leb (heldOf m i) (s .m) && holdsCopy s m i)) (eqb (heldOf m i) 0)) ≡ true =
-      rw (ne-eqb (stageOf m i) 0 (λ y. omega arith)) at (gives-position m e i h) in
-      let b = and-true (namesOther s m i) _ (and-true (leb (stageOf m i) 3) _ a .1) .0 in
-      let c = and-true (leb (otherOf m i) 5) _ b in
-      let d = and-true (not (eqb (otherOf m i) i)) _ (c .1) in
-      let f = leb-true (otherOf m i) 5 (c .0) in
-      (omega arith, leb-true 1 (length (sendItems s m (otherOf m i) i)) (d .1))
-
   -- stage 3 is the last, and 'only stage 2 holds a block (else 0)'
   last : 3 ≤ stageOf m i → (stageOf m i ≡ 3) × (heldOf m i ≡ 0)
   unfolding rightPosition
@@ -99,34 +87,6 @@ module _ (m : List ℕ) (e : sound m ≡ true) (i : ℕ) (h : i < 6) where
       let f = leb-true (stageOf m i) 3 (b .0) in
       let c : eqb (heldOf m i) 0 ≡ true = rw (ne-eqb (stageOf m i) 2 (λ y. omega arith)) at (and-true (namesOther s m i) _ (b .1) .1) in
       (omega arith, eqb-true (heldOf m i) 0 c)
-
--- ---- the position that was put
-module _ (m : List ℕ) (j : ℕ) (p : Position) (h : j < 6) (l : nodesAt ≤ length m) where
-  abbrev a : ℕ
-  a = positionAt j
-
-  abbrev m₁ : List ℕ
-  m₁ = set m a (p .stage)
-
-  abbrev m₂ : List ℕ
-  m₂ = set m₁ (a + 1) (p .other)
-
-  stage-is : stageOf (standing m j p) j ≡ p .stage
-  unfolding standing
-  stage-is =
-      getD-set-other m₂ (a + 2) a (p .held) 0 (λ e. omega arith)
-      ∙ getD-set-other m₁ (a + 1) a (p .other) 0 (λ e. omega arith)
-      ∙ getD-set-same m a (p .stage) 0 (omega arith)
-
-  other-is : otherOf (standing m j p) j ≡ p .other
-  unfolding standing
-  other-is =
-      getD-set-other m₂ (a + 2) (a + 1) (p .held) 0 (λ e. omega arith)
-      ∙ getD-set-same m₁ (a + 1) (p .other) 0 (omega (arith, length-set m a (p .stage)))
-
-  held-is : heldOf (standing m j p) j ≡ p .held
-  unfolding standing
-  held-is = getD-set-same m₂ (a + 2) (p .held) 0 (omega (arith, length-set m a (p .stage), length-set m₁ (a + 1) (p .other)))
 
 -- ---- a memory that is sound with node j's postman at p
 module _ (s : Settings) (m : List ℕ) (j : ℕ) (p : Position) (g : Stands s m j p) where
@@ -197,30 +157,20 @@ module _ (s : Settings) (m : List ℕ) (j : ℕ) (p : Position) (g : Stands s m 
           over (λ (z : Settings) (w : ℕ → List ℕ) (t : List ℕ). n < length (contents (ackKind z) (w k) (ackAt z i)) → Right z (w i) t i (7 + k) (getD (contents (ackKind z) (w k) (ackAt z i)) n 0))
           (λ d. ack-right m′ (g .holds) i h k l n d)
 
--- ---- at stage 2, and at stages 1 to 3
+-- ---- at stage 2, and at stage 3
 module _ (s : Settings) (m : List ℕ) (j stage i c : ℕ) (g : Stands s m j (at stage i c)) where
   pub stood-held : stage ≡ 2 → Right s (node s m j) (tableIn m) j 0 c
   stood-held two =
       let p : Position = at stage i c in
       let l = stood-long s m j p g in
-      let r = hand-right (standing m j p) (g .holds) j (g .postman) (stage-is m j p (g .postman) l ∙ two) in
-      let q = subst (λ (x : ℕ). Right (settingsIn (standing m j p)) (node (settingsIn (standing m j p)) (standing m j p) j) (tableIn (standing m j p)) j 0 x) (held-is m j p (g .postman) l) r in
+      let r = hand-right (standing m j p) (g .holds) j (g .postman) (stand-stage m j p (g .postman) l ∙ two) in
+      let q = subst (λ (x : ℕ). Right (settingsIn (standing m j p)) (node (settingsIn (standing m j p)) (standing m j p) j) (tableIn (standing m j p)) j 0 x) (stand-held m j p (g .postman) l) r in
       over s m j p g (λ (z : Settings) (w : ℕ → List ℕ) (t : List ℕ). Right z (w j) t j 0 c) q
-
-  pub stood-names : 1 ≤ stage → (i < 6) × (1 ≤ length (sendItems s m i j))
-  stood-names l =
-      let p : Position = at stage i c in
-      let f = stood-long s m j p g in
-      let v : 1 ≤ stageOf (standing m j p) j = rw (stage-is m j p (g .postman) f) l in
-      let r = named (standing m j p) (g .holds) j (g .postman) v in
-      let q =
-      subst (λ (x : ℕ). (x < 6) × (1 ≤ length (sendItems (settingsIn (standing m j p)) (standing m j p) x j))) (other-is m j p (g .postman) f) r in
-      over s m j p g (λ (z : Settings) (w : ℕ → List ℕ) (t : List ℕ). (i < 6) × (1 ≤ length (contents (sendKind z) (w i) (sendAt z j)))) q
 
   pub stood-last : 3 ≤ stage → (stage ≡ 3) × (c ≡ 0)
   stood-last l =
       let p : Position = at stage i c in
       let f = stood-long s m j p g in
-      let v = stage-is m j p (g .postman) f in
+      let v = stand-stage m j p (g .postman) f in
       let r = last (standing m j p) (g .holds) j (g .postman) (omega arith) in
-      (sym v ∙ r .0, sym (held-is m j p (g .postman) f) ∙ r .1)
+      (sym v ∙ r .0, sym (stand-held m j p (g .postman) f) ∙ r .1)

@@ -19,10 +19,10 @@ use Rattle.postman.specs.Position.{positionOf, kept}
 use Rattle.postman.specs.Round.{Post, post, atStart}
 use Rattle.postman.specs.Asked.{Stands}
 use Rattle.postman.specs.Steps.{gone}
+use Rattle.stages_keep.proofs.Laws.{begins}
 use Rattle.turn.specs.declared.Turned.{Turned}
 use Rattle.turn.specs.declared.Turned.the-variants.{Finished, Stopped, NotSound}
 use Rattle.turn.specs.Outcome.{Outcome, answered, taken, turn}
-use Rattle.turn.proofs.Given.{begins}
 
 abbrev out : Turned → List ℕ → Outcome
 out a m = record { answer = a; memory = m }

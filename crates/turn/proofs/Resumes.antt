@@ -18,11 +18,11 @@ use Rattle.postman.specs.Position.{at, atRest}
 use Rattle.postman.specs.Round.{Post, post, atStart}
 use Rattle.postman.specs.Asked.{Stands}
 use Rattle.postman.specs.Steps.{handedOn, delivered, collectedFrom, clearsFirst, resumed}
+use Rattle.stages_keep.proofs.Laws.{handed-rest, delivered-rest, rests}
 use Rattle.stages.proofs.Stood.{stood-last}
 use Rattle.carrying.specs.Asked.{Delivers, CarriesFrom, CollectsFrom}
 use Rattle.carrying.proofs.Sums.{handed-most, delivered-most, from-same}
 use Rattle.carrying.proofs.Asks.{from-stands}
-use Rattle.turn.proofs.Given.{handed-rest, delivered-rest, rests}
 
 module _ (s : Settings) (m : List ℕ) (j : ℕ) (p : Position) where
   clears : p .stage < 2 → clearsFirst s j (p .stage) ≡ true
