@@ -8,7 +8,7 @@ use Rattle.words.proofs.Lists.{put-other}
 use Rattle.words.proofs.Parts.{getD-part}
 use Rattle.settings.specs.declared.Settings.{Settings}
 use Rattle.settings.specs.Range.{InRange}
-use Rattle.layout.specs.Places.{nodes, sendAt, ackAt, nodeAt, nodeSize, nodeEnd, node, withNode}
+use Rattle.layout.specs.Places.{nodes, sendAt, ackAt, nodeAt, nodeEnd, node, withNode}
 use Rattle.layout.proofs.Fits.{send-fits}
 use Rattle.layout.proofs.MemoryRows.{stretch-fits}
 use Rattle.queues.specs.declared.Kind.{Kind}
@@ -26,7 +26,7 @@ use Rattle.postman.specs.Round.{Did, did, Post, post, onStage, into, blocksBack
 use Rattle.postman.specs.Asked.{Stands, Waits, Owes}
 use Rattle.postman.specs.Steps.{firstOf, spaceOf, copiedIn, queued, acknowledged, carried, carriedAll, collected, collectedAll, collectedFrom}
 use Rattle.stages_keep.proofs.Laws.{copied-stands, queued-stands, carried-next, carried-all, collected-next, names-in, names-apart, names-waits}
-use Rattle.stages.specs.Asked.{Lent, HasQueue, HasFirst, Holds, GaveBack}
+use Rattle.stages.specs.Asked.{Lent, HasQueue, HasFirst, GaveBack}
 use Rattle.stages.proofs.Stood.{stood-sized, stood-lent, stood-stretch, stood-send, stood-ack}
 use Rattle.stages.proofs.Copying.{with-sized}
 use Rattle.carrying.specs.Asked.{Delivers, Carries, CarriesFrom, Collects, CollectsFrom}

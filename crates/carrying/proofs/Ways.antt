@@ -1,5 +1,5 @@
 -- One law for each way that a stage, a step and a turn go on. Assumes nothing.
-use mathlib.Core.Path.{_≡_, refl, sym, ap, _∙_, subst}
+use mathlib.Core.Path.{_≡_, _∙_, subst}
 use mathlib.Core.List.{List}
 use Prim.Native.Nat.{ℕ, suc, _+_, _-_, _≤_, _<_}
 use native.Mathlib.Omega.{arith}
@@ -9,7 +9,7 @@ use Rattle.sound.specs.Reading.{sendItems, ackItems}
 use Rattle.postman.specs.declared.Stage.{Stage}
 use Rattle.postman.specs.declared.Stage.the-variants.{Done, Stopped}
 use Rattle.postman.specs.declared.Round.{Round}
-use Rattle.postman.specs.Round.{Did, did, Post, post, onStage, stage, andThen, into, blocksBack}
+use Rattle.postman.specs.Round.{Did, did, Post, post, onStage, stage, andThen, into}
 use Rattle.postman.specs.Steps.{carried, carriedAll, carriedFrom, collected, collectedAll, collectedFrom}
 
 -- ---- a stage that stopped, and one that was done

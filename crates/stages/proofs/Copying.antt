@@ -11,11 +11,10 @@ use Rattle.words.proofs.Lists.{same?, put-other, told-no, told-yes}
 use Rattle.words.proofs.Parts.{splice-part}
 use Rattle.settings.specs.declared.Settings.{Settings}
 use Rattle.settings.specs.Range.{InRange}
-use Rattle.layout.specs.Places.{nodes, firstFreeAt, roomAt, sendAt, nodeAt, nodeEnd, nodeSize, memorySize, node, withNode}
+use Rattle.layout.specs.Places.{firstFreeAt, roomAt, sendAt, nodeAt, nodeEnd, nodeSize, node, withNode}
 use Rattle.layout.specs.Asked.{Stretch, Sized}
 use Rattle.layout.proofs.MemoryRows.{stretch-fits}
 use Rattle.blocks.specs.Chain.{needs, free}
-use Rattle.blocks.specs.Asked.{FreeList, Takes}
 use Rattle.blocks.specs.Moves.{enough, taken, takenAnswer}
 use Rattle.blocks.specs.declared.Taken.{Taken}
 use Rattle.blocks.specs.declared.Taken.the-variants.{First, Short}
@@ -25,10 +24,10 @@ use Rattle.letters.specs.Asked.{Lies, Copies}
 use Rattle.letters.proofs.Rows.{needs-enough}
 use Rattle.letters.proofs.Copies.{lies-chained}
 use Rattle.queues.specs.declared.Kind.{Kind}
-use Rattle.queues.specs.Queue.{Queue, sendKind, items, itemAt}
+use Rattle.queues.specs.Queue.{sendKind, items, itemAt}
 use Rattle.queues.specs.Moves.{counted, dropped}
 use Rattle.queues.proofs.Views.{length-contents, contents-item}
-use Rattle.sound.specs.Reading.{tableIn, sendItems}
+use Rattle.sound.specs.Reading.{tableIn}
 use Rattle.sound.specs.Letters.{chainFrom, toldLength}
 use Rattle.sound.proofs.Held.{Right}
 use Rattle.sound.proofs.Right.{right-least, right-most, right-needs, right-lies}

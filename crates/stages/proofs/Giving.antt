@@ -7,7 +7,7 @@ use lib.ListN.{length, getD}
 use Rattle.words.proofs.Lists.{put-other}
 use Rattle.settings.specs.declared.Settings.{Settings}
 use Rattle.settings.specs.Range.{InRange}
-use Rattle.layout.specs.Places.{nodes, ackAt, nodeSize, node, withNode}
+use Rattle.layout.specs.Places.{ackAt, nodeSize, node, withNode}
 use Rattle.layout.specs.Asked.{Stretch, Sized}
 use Rattle.blocks.specs.Chain.{needs}
 use Rattle.blocks.specs.Moves.{givenBack}

@@ -8,7 +8,7 @@ use borrow.Rule.Slice.PartMut.{putMid}
 use Rattle.words.specs.Words.{part, splice}
 use Rattle.words.proofs.Parts.{back}
 use Rattle.settings.specs.declared.Settings.{Settings}
-use Rattle.layout.specs.Places.{nodeSize, nodeAt, node, withNode, nodesAt, queueHead}
+use Rattle.layout.specs.Places.{nodeSize, nodeAt, node, withNode, nodesAt}
 use Rattle.layout.specs.Numbers.{headerWords, lengthWord}
 use Rattle.layout.specs.Asked.{Stretch}
 use Rattle.layout.proofs.Fits.{nodes-fit, send-fits}

@@ -1,37 +1,36 @@
 -- Stages 2 and 3: the queue for a letter, and what an append leaves. Assumes nothing.
 use mathlib.Core.Path.{_≡_, refl, sym, ap, ap₂, _∙_}
-use mathlib.Core.Bool.{true, false, _&&_, false≢true}
+use mathlib.Core.Bool.{true, false, false≢true}
 use mathlib.Core.List.{List}
-use Prim.Native.Nat.{ℕ, _+_, _≤_, _<_}
+use Prim.Native.Nat.{ℕ, _≤_, _<_}
 use native.Mathlib.Omega.{arith}
 use lib.Dec.{eqb}
 use lib.ListN.{length, getD}
 use Rattle.words.proofs.Lists.{and-true}
 use Rattle.settings.specs.declared.Settings.{Settings}
 use Rattle.settings.specs.Range.{InRange}
-use Rattle.layout.specs.Places.{nodes, ackAt, taskAt, node, withNode}
+use Rattle.layout.specs.Places.{ackAt, taskAt, node, withNode}
 use Rattle.layout.specs.Numbers.{sourceTaskWord, sourceNodeWord, destinationTaskWord}
-use Rattle.layout.specs.Asked.{IsAt}
 use Rattle.tasks.specs.Table.{nodeOf, queueOf, isBound}
 use Rattle.tasks.specs.Seat.{seatOf}
 use Rattle.tasks.specs.declared.Seat.the-variants.{At, Unbound}
 use Rattle.tasks.proofs.Laws.{told-at, told-unbound, seat-below}
 use Rattle.queues.specs.declared.Kind.{Kind}
 use Rattle.queues.specs.declared.Appended.{Appended}
-use Rattle.queues.specs.declared.Appended.the-variants.{Done as Appended-done, Full as Appended-full}
-use Rattle.queues.specs.Queue.{Queue, ackKind, taskKind}
+use Rattle.queues.specs.declared.Appended.the-variants.{Full as Appended-full}
+use Rattle.queues.specs.Queue.{ackKind}
 use Rattle.queues.specs.Moves.{appended, appendAnswer}
 use Rattle.gaps.specs.Close.{taskAppended, taskAnswer}
 use Rattle.sound.specs.Reading.{tableIn, sendItems}
 use Rattle.sound.specs.Letters.{wordsFrom, rightHeader}
 use Rattle.postman.specs.declared.Stage.{Stage}
-use Rattle.postman.specs.declared.Stage.the-variants.{Done, Stopped}
+use Rattle.postman.specs.declared.Stage.the-variants.{Stopped}
 use Rattle.postman.specs.Position.{at}
-use Rattle.postman.specs.Round.{Did, did}
+use Rattle.postman.specs.Round.{did}
 use Rattle.postman.specs.Asked.{Stands}
 use Rattle.postman.specs.Steps.{onAppend, firstOf, queueFor, queued, acknowledged}
 use Rattle.stages_keep.proofs.Laws.{names-in, names-waits}
-use Rattle.stages.specs.Asked.{Lent, Begins, Addressed, HasQueue, HasTaskQueue, HasFirst, Holds}
+use Rattle.stages.specs.Asked.{Addressed, HasQueue, HasTaskQueue, HasFirst, Holds}
 use Rattle.stages.proofs.Stood.{stood-lent, stood-sized, stood-table, stood-send, stood-ack, stood-task, stood-held}
 
 pub append-full : (a : Appended) (n : ℕ) → a ≡ Appended-full → Stopped n ≡ onAppend a n

@@ -2,16 +2,15 @@
 use mathlib.Core.Path.{_≡_, sym, ap, _∙_, subst, fun-ext}
 use mathlib.Core.Bool.{Bool, true, false, cond, _&&_, _||_, not, false≢true}
 use mathlib.Core.List.{List, [], _∷_}
-use Prim.Native.Nat.{ℕ, _+_, _-_, _*_, _≤_, _<_}
+use Prim.Native.Nat.{ℕ, _+_, _-_, _≤_, _<_}
 use native.Mathlib.Omega.{arith}
 use lib.Dec.{eqb, leb}
-use lib.ListN.{length, getD, set, length-set}
-use lib.Seq.{getD-set-same, getD-set-other}
-use borrow.Author.Tests.{eq-eqb, ne-eqb, leb-true, eqb-true, not-true}
+use lib.ListN.{length, getD}
+use borrow.Author.Tests.{eq-eqb, ne-eqb, leb-true, eqb-true}
 use Rattle.words.specs.Words.{every, all}
 use Rattle.words.proofs.Lists.{and-true, every-at, all-head, all-at}
 use Rattle.settings.specs.declared.Settings.{Settings}
-use Rattle.layout.specs.Places.{nodes, taskQueues, nodesAt, positionAt, sendAt, ackAt, taskAt, memorySize, node}
+use Rattle.layout.specs.Places.{nodes, taskQueues, nodesAt, sendAt, ackAt, taskAt, node}
 use Rattle.layout.specs.Rows.{byRow}
 use Rattle.layout.specs.Asked.{Stretch, Sized}
 use Rattle.layout.proofs.Fits.{nodes-fit}
@@ -20,13 +19,13 @@ use Rattle.tasks.specs.Table.{rightTable}
 use Rattle.blocks.specs.Asked.{FreeList}
 use Rattle.queues.specs.Queue.{Queue, sendKind, ackKind, taskKind, contents}
 use Rattle.queues.specs.Items.{live}
-use Rattle.sound.specs.Reading.{settingsIn, tableIn, stageOf, otherOf, heldOf, sendItems, ackItems, taskItems}
+use Rattle.sound.specs.Reading.{settingsIn, tableIn, stageOf, heldOf, sendItems, ackItems, taskItems}
 use Rattle.sound.specs.Queues.{inShape, noneToItself, rightSend, rightAck, rightTask, rightQueues}
 use Rattle.sound.specs.Letters.{rightLetter}
 use Rattle.sound.specs.Positions.{namesOther, holdsCopy, rightPosition, held}
 use Rattle.sound.specs.Blocks.{begun}
 use Rattle.sound.specs.Sound.{sound}
-use Rattle.sound.proofs.Gives.{gives-table, gives-queues, gives-position, gives-range, gives-sized, gives-stretch, gives-send, gives-ack, gives-task, gives-free}
+use Rattle.sound.proofs.Gives.{gives-table, gives-queues, gives-position, gives-sized, gives-stretch, gives-send, gives-ack, gives-task, gives-free}
 use Rattle.sound.proofs.Held.{Right, right-parts, gives-at, send-right}
 use Rattle.postman.specs.declared.Position.{Position}
 use Rattle.postman.specs.Position.{standing, at}

@@ -1,12 +1,12 @@
 -- The outcome of a turn, by the test on the way, and what a sound memory gives to it. Assumes nothing.
-use mathlib.Core.Path.{_≡_, refl, sym, ap, ap₂, _∙_}
+use mathlib.Core.Path.{_≡_, ap, ap₂, _∙_}
 use mathlib.Core.Bool.{true, false}
 use mathlib.Core.List.{List}
-use Prim.Native.Nat.{ℕ, _+_, _≤_, _<_}
+use Prim.Native.Nat.{ℕ, _≤_, _<_}
 use native.Mathlib.Omega.{arith}
-use lib.ListN.{length, getD}
+use lib.ListN.{length}
 use Rattle.settings.specs.declared.Settings.{Settings}
-use Rattle.layout.specs.Places.{nodes, nodesAt, turnAt}
+use Rattle.layout.specs.Places.{nodesAt}
 use Rattle.layout.proofs.Fits.{nodes-fit}
 use Rattle.sound.specs.Reading.{settingsIn, turnIn}
 use Rattle.sound.specs.Sound.{sound}
