@@ -12,19 +12,19 @@ use Rattle.postman.specs.declared.Position.{Position}
 use Rattle.postman.specs.Position.{standing, atRest}
 
 -- the memory, with its settings s, is sound with node j's postman at position p
-pub record Stands (s : Settings) (m : List ℕ) (j : ℕ) (p : Position) : Type 0 where
+pub record SoundAt (s : Settings) (m : List ℕ) (j : ℕ) (p : Position) : Type 0 where
   pub settings : s ≡ settingsIn m
   pub postman : j < nodes
   pub holds : sound (standing m j p) ≡ true
 
 -- so it is at rest, and node i has k letters or more for j
 pub record Waits (s : Settings) (m : List ℕ) (j i k : ℕ) : Type 0 where
-  pub stands : Stands s m j atRest
+  pub stands : SoundAt s m j atRest
   pub there : i < nodes
   pub letters : k ≤ length (sendItems s m i j)
 
 -- and node i has acknowledged k letters or more to j
 pub record Owes (s : Settings) (m : List ℕ) (j i k : ℕ) : Type 0 where
-  pub stands : Stands s m j atRest
+  pub stands : SoundAt s m j atRest
   pub there : i < nodes
   pub items : k ≤ length (ackItems s m i j)

@@ -22,7 +22,7 @@ use Rattle.postman.specs.declared.Round.{Round}
 use Rattle.postman.specs.Position.{at, atRest, positionOf, standing}
 use Rattle.postman.specs.Round.{Post, atStart, onStage, oneLetter, stage}
 use Rattle.postman.specs.Steps.{spaceOf, copiedIn, queued, acknowledged, handedOn, delivered, carried, carriedAll, collected}
-use Rattle.postman.specs.Asked.{Stands, Waits, Owes}
+use Rattle.postman.specs.Asked.{SoundAt, Waits, Owes}
 use Rattle.stages_keep.proofs.Standing.{machineAt, stands-represents, midway-of, here-of, stands-midway}
 use Rattle.stages_keep.proofs.Shown.{some-of, send-shown, ack-shown}
 use Rattle.stages_keep.proofs.Going.{Is, Goes, one-of}
@@ -34,13 +34,13 @@ use Rattle.stages_keep.proofs.Went.{Went, reached, how?, rest-is, i-in,
 
 -- ---- what a stage asks for, and what it leaves
 module _ (s : Settings) (m : List ℕ) (j : ℕ) (p : Position) where
-  pub stands-is : (st : Stands s m j p) → Is s m j p (machineAt s m j p st)
+  pub stands-is : (st : SoundAt s m j p) → Is s m j p (machineAt s m j p st)
   stands-is st =
       let rep = stands-represents s m j p st in
       let M = machineAt s m j p st in
       record { mid = midway-of s m j p (st .postman) (sym (st .settings)) M rep; here = here-of s m j p (st .postman) (sym (st .settings)) M rep }
 
-  pub is-stands : j < 6 → (M : Machine) → Is s m j p M → Stands s m j p
+  pub is-stands : j < 6 → (M : Machine) → Is s m j p M → SoundAt s m j p
   is-stands h M is = stands-midway s m j p h M (is .mid) (is .here)
 
 -- how many letters wait in node i for j, and how many of j's stand acknowledged in i
@@ -52,7 +52,7 @@ module _ (s : Settings) (m : List ℕ) (j : ℕ) (p : Position) (h : j < 6) (M :
   owes-is = ap length (ack-shown s (tableIn m) m (M .node) (is .mid .works) i j g h) ∙ length-firsts (M .node j .letters (7 + i))
 
 -- ---- A TURN BEGINS
-pub begins : (m : List ℕ) → sound m ≡ true → Stands (settingsIn m) m (turnIn m) (positionOf m (turnIn m))
+pub begins : (m : List ℕ) → sound m ≡ true → SoundAt (settingsIn m) m (turnIn m) (positionOf m (turnIn m))
 unfolding standing
 begins m e =
     let j : ℕ = turnIn m in
@@ -63,16 +63,16 @@ begins m e =
       holds = rw (set-getD m (6 + j * 3) 0, set-getD m (6 + j * 3 + 1) 0, set-getD m (6 + j * 3 + 2) 0) e;
     }
 
-pub rests : (s : Settings) (m : List ℕ) (j stage i x : ℕ) → Stands s m j (at stage i x) → stage ≤ 1 → Stands s m j atRest
+pub rests : (s : Settings) (m : List ℕ) (j stage i x : ℕ) → SoundAt s m j (at stage i x) → stage ≤ 1 → SoundAt s m j atRest
 rests s m j stage i x st l =
     is-stands s m j atRest (st .postman) _ (rest-is s (tableIn m) j (st .postman) m (machineAt s m j (at stage i x) st) stage i x l (stands-is s m j (at stage i x) st))
 
-pub other-in : (s : Settings) (m : List ℕ) (j stage i x : ℕ) → Stands s m j (at stage i x) → i < 6
+pub other-in : (s : Settings) (m : List ℕ) (j stage i x : ℕ) → SoundAt s m j (at stage i x) → i < 6
 other-in s m j stage i x st =
     i-in s (tableIn m) j (st .postman) m refl (machineAt s m j (at stage i x) st) stage i x (stands-is s m j (at stage i x) st) atStart refl
 
 -- ---- STAGES 1 AND 2, done or stopped
-pub copied-stands : (s : Settings) (m : List ℕ) (j i : ℕ) → Waits s m j i 1 → Stands s (copiedIn s j m i .memory) j (onStage (copiedIn s j m i .how) (at 1 i 0) (at 2 i (spaceOf s j m)))
+pub copied-stands : (s : Settings) (m : List ℕ) (j i : ℕ) → Waits s m j i 1 → SoundAt s (copiedIn s j m i .memory) j (onStage (copiedIn s j m i .how) (at 1 i 0) (at 2 i (spaceOf s j m)))
 copied-stands s m j i w =
     let st = w .stands in
     let M = machineAt s m j atRest st in
@@ -82,7 +82,7 @@ copied-stands s m j i w =
     is-stands s (copiedIn s j m i .memory) j (onStage (copiedIn s j m i .how) (at 1 i 0) (at 2 i (spaceOf s j m))) (st .postman) (g .after) (g .is))
 
 -- a postman in stage 2 or 3 names a node in which a letter waits
-module _ (s : Settings) (m : List ℕ) (j i stage x : ℕ) (st : Stands s m j (at stage i x)) (some : 1 ≤ stage) where
+module _ (s : Settings) (m : List ℕ) (j i stage x : ℕ) (st : SoundAt s m j (at stage i x)) (some : 1 ≤ stage) where
   abbrev M : Machine
   M = machineAt s m j (at stage i x) st
 
@@ -104,7 +104,7 @@ module _ (s : Settings) (m : List ℕ) (j i stage x : ℕ) (st : Stands s m j (a
   left : length (M .node i .letters (1 + j)) ≡ suc (length (M .node i .letters (1 + j)) - 1)
   left = omega (arith, waiting)
 
-pub queued-stands : (s : Settings) (m : List ℕ) (j i c : ℕ) → Stands s m j (at 2 i c) → Stands s (queued s j m c .memory) j (onStage (queued s j m c .how) (at 2 i c) (at 3 i 0))
+pub queued-stands : (s : Settings) (m : List ℕ) (j i c : ℕ) → SoundAt s m j (at 2 i c) → SoundAt s (queued s j m c .memory) j (onStage (queued s j m c .how) (at 2 i c) (at 3 i 0))
 queued-stands s m j i c st =
     let N = M s m j i 2 c st (omega arith) in
     let is = stands-is s m j (at 2 i c) st in
@@ -147,7 +147,7 @@ rested s table p j h M r f n w d = subst (λ (x : Position). Is s (p .memory) j 
     on-rest h e = rw e
 
 module _ (s : Settings) (m : List ℕ) (j i : ℕ) (r : Round) where
-  pub handed-rest : Stands s m j (at 3 i 0) → handedOn s j m i r .round .how ≡ Done → Stands s (handedOn s j m i r .memory) j atRest
+  pub handed-rest : SoundAt s m j (at 3 i 0) → handedOn s j m i r .round .how ≡ Done → SoundAt s (handedOn s j m i r .memory) j atRest
   handed-rest st d =
       let N = M s m j i 3 0 st (omega arith) in
       let n : ℕ = length (N .node i .letters (1 + j)) - 1 in
@@ -170,7 +170,7 @@ module _ (s : Settings) (m : List ℕ) (j i k : ℕ) (r : Round) where
         letters = omega (arith, waits-is s (carried s j m i r .memory) j atRest (st .postman) (w .after) is′ i (v .there), w .left d, l, v .letters);
       }
 
-  pub carried-all : r .how ≡ Done → Waits s m j i k → carriedAll s j k m i r .round .how ≡ Done → Stands s (carriedAll s j k m i r .memory) j atRest
+  pub carried-all : r .how ≡ Done → Waits s m j i k → carriedAll s j k m i r .round .how ≡ Done → SoundAt s (carriedAll s j k m i r .memory) j atRest
   carried-all e v d =
       let st = v .stands in
       let N = machineAt s m j atRest st in
@@ -193,7 +193,7 @@ module _ (s : Settings) (m : List ℕ) (j i k : ℕ) (r : Round) where
         items = omega (arith, owes-is s (collected s j m i r .memory) j atRest (st .postman) (g .after) (g .is) i (v .there), g .left, l, v .items);
       })
 
-pub delivered-rest : (s : Settings) (m : List ℕ) (j i c : ℕ) (r : Round) → Stands s m j (at 2 i c) → delivered s j m i c r .round .how ≡ Done → Stands s (delivered s j m i c r .memory) j atRest
+pub delivered-rest : (s : Settings) (m : List ℕ) (j i c : ℕ) (r : Round) → SoundAt s m j (at 2 i c) → delivered s j m i c r .round .how ≡ Done → SoundAt s (delivered s j m i c r .memory) j atRest
 delivered-rest s m j i c r st d =
     let N = M s m j i 2 c st (omega arith) in
     let n : ℕ = length (N .node i .letters (1 + j)) - 1 in

@@ -26,7 +26,7 @@ use Rattle.moves.proofs.Made.{Working}
 use Rattle.moves.proofs.Memory.{with-word, with-table, set-node, set-rows, set-settings, set-table}
 use Rattle.postman.specs.declared.Position.{Position}
 use Rattle.postman.specs.Position.{at, atRest, standing}
-use Rattle.postman.specs.Asked.{Stands}
+use Rattle.postman.specs.Asked.{SoundAt}
 
 -- ---- HIS POSITION STORED
 module _ (m : List ℕ) (j : ℕ) (p : Position) where
@@ -185,7 +185,7 @@ module _ (s : Settings) (m : List ℕ) (j : ℕ) (p : Position) (h : j < 6) (M :
             (record { turn = mid .low; order = mid .works .order; positions = λ k a. same? k j (λ e t. rw e (here .right)) (λ e t. mid .positions k a e) });
       }
 
-  pub stands-midway : Stands s m j p
+  pub stands-midway : SoundAt s m j p
   stands-midway =
       record {
         settings = sym (mid .settings);
@@ -194,7 +194,7 @@ module _ (s : Settings) (m : List ℕ) (j : ℕ) (p : Position) (h : j < 6) (M :
       }
 
 -- from what a stage asks for
-module _ (s : Settings) (m : List ℕ) (j : ℕ) (p : Position) (st : Stands s m j p) where
+module _ (s : Settings) (m : List ℕ) (j : ℕ) (p : Position) (st : SoundAt s m j p) where
   unfoldable pub machineAt : Machine
   machineAt = machineOf (standing m j p)
 

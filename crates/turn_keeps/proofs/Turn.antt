@@ -33,7 +33,7 @@ use Rattle.postman.specs.declared.Round.{Round}
 use Rattle.postman.specs.Position.{at, atRest, positionOf, standing, nextTurn, kept}
 use Rattle.postman.specs.Round.{Post, atStart, onStage}
 use Rattle.postman.specs.Steps.{gone}
-use Rattle.postman.specs.Asked.{Stands}
+use Rattle.postman.specs.Asked.{SoundAt}
 use Rattle.stages_keep.proofs.Standing.{machineAt, represents-midway, stand-settings, stand-table, stand-length}
 use Rattle.stages_keep.proofs.Going.{Is}
 use Rattle.stages_keep.proofs.Way.{carry-same, carries-way}
@@ -75,7 +75,7 @@ module _ (m : List ℕ) (e : sound m ≡ true) where
   abbrev p : Position
   p = positionOf m (turnIn m)
 
-  st : Stands (settingsIn m) m (turnIn m) (positionOf m (turnIn m))
+  st : SoundAt (settingsIn m) m (turnIn m) (positionOf m (turnIn m))
   st = begins m e
 
   h : j < 6

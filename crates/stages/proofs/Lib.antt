@@ -1,0 +1,5 @@
+pub mod Lent
+pub mod Stood
+pub mod Copying
+pub mod Putting
+pub mod Giving
