@@ -260,8 +260,8 @@ module _ (table : List ℕ) (right : rightTable table ≡ true) (m m′ : Machin
       each f [] h = tt
       each f (L ∷ ls) h = (
         split (t (L .words))
-        (λ e. absurd (let g = between-tells a b (L .words) e in false≢true (sym (h .0) ∙ same-asked (g .0 ∙ sym f) ∙ r .wanted)))
-        (λ e. e),
+            (λ e. absurd (let g = between-tells a b (L .words) e in false≢true (sym (h .0) ∙ same-asked (g .0 ∙ sym f) ∙ r .wanted)))
+            (λ e. e),
         each f ls (h .1),
       )
         where
