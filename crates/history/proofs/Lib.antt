@@ -1,2 +1,3 @@
 pub mod Way
 pub mod Shown
+pub mod History
