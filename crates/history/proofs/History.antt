@@ -60,9 +60,11 @@ use Rattle.receive_keeps.proofs.Receive.{receive-sound, receive-fixed, receive-
 use Rattle.turn_keeps.proofs.Turn.{turn-sound, turn-fixed, turn-turns}
 use Rattle.stages_keep.proofs.Way.{those-append}
 use Rattle.history.specs.Runs.{Call, SetsUp, Sends as Sends-call, Receives as Receives-call, Turns as Turns-call, Lists, Past, sentLetter, acceptedBy, receivedBy, afterSetUp, afterCall, afterAll}
-use Rattle.history.specs.Demand.{shownIn, InOrder, placesOf, EachOnce, Holds}
+use Rattle.history.specs.Demand.{Holds}
+use Rattle.history.specs.Lively.{Lively}
 use Rattle.history.proofs.Way.{refused-way, sends-way, receives-way}
 use Rattle.history.proofs.Shown.{list-shows}
+use Rattle.history.proofs.Stuck.{never-stuck, has-room}
 
 -- what holds after each call: the memory is sound, and for each pair the letters accepted are those received and then those on the way
 pub record Kept (p : Past) : Type 0 where
@@ -369,15 +371,28 @@ module _ (p : Past) (k : Kept p) (destination source : ℕ) (out : List ℕ) whe
         let l : All Live (r .earlier ++ r .letter ∷ r .later) = subst (All Live) (r .was) (live-ones ls) in
         all-parts P (r .earlier) (r .letter ∷ r .later) o .1 .0 (all-parts Live (r .earlier) (r .letter ∷ r .later) l .1 .0)
 
+    handed-letter : sentLetter t₂ a destination (take n given) ≡ v
+    unfolding onto
+    handed-letter =
+        ap₂ (λ (x : ℕ) (l : List ℕ). sentLetter t₂ x destination l) (r .source-told)
+        (ap₂ (λ (x : ℕ) (l : List ℕ). take x l) (r .length-told) (r .written) ∙ take-append-seam (drop 5 v) (drop (length (drop 5 v)) out))
+        ∙ letter-is t₂ table₂ destination b₂ v right
+
     -- what is handed over is that letter
     handed : receivedBy t₂ destination answer₂ given ≡ v ∷ []
-    unfolding onto
-    handed =
-        ap (λ (x : Received). receivedBy t₂ destination x given) e
-        ∙ ap (λ (l : List ℕ). l ∷ [])
-        (ap₂ (λ (x : ℕ) (l : List ℕ). sentLetter t₂ x destination l) (r .source-told)
-        (ap₂ (λ (x : ℕ) (l : List ℕ). take x l) (r .length-told) (r .written) ∙ take-append-seam (drop 5 v) (drop (length (drop 5 v)) out))
-        ∙ letter-is t₂ table₂ destination b₂ v right)
+    handed = ap (λ (x : Received). receivedBy t₂ destination x given) e ∙ ap (λ (l : List ℕ). l ∷ []) handed-letter
+
+    -- its source is a bound task
+    source-bound : isBound t₂ a ≡ true
+    unfolding rightHeader
+    source-bound = rw (r .source-told) (and-true (isBound t₂ (getD v 0 0)) _ (right .header) .0)
+
+    -- it is the first on the way from its source
+    first-letter : getD v 2 0 ≡ destination → onTheWay t₂ (machineOf (p .memory)) a destination ≡ v ∷ onTheWay t₂ (machineOf m₂) a destination
+    unfolding between those
+    first-letter d =
+        receives-way t₂ table₂ (machineOf (p .memory)) (machineOf m₂) destination source a n out given r d a destination source-bound b₂
+        ∙ rw (eq-eqb (getD v 0 0) a (sym (r .source-told)), eq-eqb (getD v 2 0) destination d)
 
     done-kept : Kept p₂
     done-kept =
@@ -433,7 +448,29 @@ kept-holds p k =
           let o = rep .core .once i b h in
           let z : many b (machineOf (p .memory) .node i .letters 77) ≡ 0 = ap (many b) (rep .formed .order .still i h) in
           omega (arith, o, z, sum-last 77 (λ q. many b (machineOf (p .memory) .node i .letters q)), down-in (settingsIn (p .memory) .m) b lo hi);
-      sound = k .safe;
+      room = has-room (p .memory) (k .safe) (p .accepted) (p .received);
+      stuck = never-stuck (p .memory) (k .safe) (p .accepted) (p .received);
+    }
+
+-- ---- and it is not empty
+pub kept-lively : (p : Past) → Kept p → Lively p
+unfolding afterCall
+kept-lively p k =
+    record {
+      accepts = λ source destination body n e. rw e;
+      receives = λ destination wanted out a n e.
+          let t : List ℕ = tableIn (p .memory) in
+          let x = r p k destination wanted out a n e in
+          let w = right p k destination wanted out a n e in
+          let b = bound₂ p k destination wanted out a n e in
+          let d = for-destination t (gives-table (p .memory) (k .safe)) destination b (x .letter .words) w in
+          record {
+            letter = x .letter .words;
+            handed = sym (handed-letter p k destination wanted out a n e);
+            received = ap (λ (l : List (List ℕ)). p .received ++ l) (handed p k destination wanted out a n e);
+            first = first-letter p k destination wanted out a n e d;
+          };
+      carries = turn-turns (p .memory) (k .safe);
     }
 
 -- DEMAND 3: from a successful set-up on, under any calls in any order, refused ones too
@@ -442,3 +479,9 @@ pub demand-3 : (p : Past) (b m s a t : ℕ) (table : List ℕ) → setUp (settin
 unfolding afterCall
 demand-3 p b m s a t table e cs =
     kept-holds (afterAll (afterCall p (SetsUp b m s a t table)) cs) (runs (afterCall p (SetsUp b m s a t table)) (set-up-kept (settingsOf b m s a t) table p e) cs)
+
+pub lively : (p : Past) (b m s a t : ℕ) (table : List ℕ) → setUp (settingsOf b m s a t) table (p .memory) .answer ≡ SetUp-done
+    → (cs : List Call) → Lively (afterAll (afterCall p (SetsUp b m s a t table)) cs)
+unfolding afterCall
+lively p b m s a t table e cs =
+    kept-lively (afterAll (afterCall p (SetsUp b m s a t table)) cs) (runs (afterCall p (SetsUp b m s a t table)) (set-up-kept (settingsOf b m s a t) table p e) cs)

@@ -1,3 +1,4 @@
 pub mod Way
 pub mod Shown
+pub mod Stuck
 pub mod History

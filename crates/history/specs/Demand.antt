@@ -6,16 +6,19 @@ use Prim.Native.Nat.{ℕ, zero, suc, _+_, _≤_, _<_}
 use lib.Dec.{eqb}
 use lib.ListN.{getD, drop}
 use Rattle.words.specs.Count.{occurs, sum}
-use Rattle.settings.specs.declared.Settings.{Settings}
 use Rattle.layout.specs.Places.{node}
 use Rattle.layout.specs.Numbers.{listWords}
 use Rattle.tasks.specs.Table.{isBound}
 use Rattle.sound.specs.Reading.{settingsIn, tableIn}
 use Rattle.sound.specs.Letters.{wordsFrom}
-use Rattle.sound.specs.Sound.{sound}
-use Rattle.listing.specs.declared.Listed.{Listed}
-use Rattle.listing.specs.declared.Listed.the-variants.{Done}
+use Rattle.listing.specs.declared.Listed.the-variants.{Done, NotSound as Listed-not-sound}
 use Rattle.listing.specs.Outcome.{list}
+use Rattle.posting.specs.declared.Sent.the-variants.{NotSound as Sent-not-sound}
+use Rattle.send.specs.Outcome.{send}
+use Rattle.receive.specs.declared.Received.the-variants.{NotSound as Received-not-sound}
+use Rattle.receive.specs.Outcome.{receive}
+use Rattle.turn.specs.declared.Turned.the-variants.{NotSound as Turned-not-sound}
+use Rattle.turn.specs.Outcome.{turn}
 use Rattle.machine.specs.Machine.{Machine, many}
 use Rattle.machine.specs.Spelled.{machineOf}
 use Rattle.moves.specs.Way.{those, between}
@@ -47,12 +50,22 @@ placesOf m i b = occurs b (m .node i .free) + sum 77 (λ p. many b (m .node i .l
 abbrev pub EachOnce : Past → Type 0
 EachOnce p = (i b : ℕ) → i < 6 → 1 ≤ b → b ≤ settingsIn (p .memory) .m → placesOf (machineOf (p .memory)) i b ≡ 1
 
--- no call but set up is refused by 1: each of them answers it exactly where the memory is not sound
-abbrev pub NeverStuck : Past → Type 0
-NeverStuck p = sound (p .memory) ≡ true
+-- no call is refused by 1, whatever its arguments; set up never is
+pub record NeverStuck (p : Past) : Type 0 where
+  pub sends : (source destination : ℕ) (body : List ℕ) → send (p .memory) source destination body .answer ≡ Sent-not-sound → ⊥
+  pub receives : (destination source : ℕ) (out : List ℕ) → receive (p .memory) destination source out .answer ≡ Received-not-sound → ⊥
+  pub turns : turn (p .memory) .answer ≡ Turned-not-sound → ⊥
+  pub lists : (out : List ℕ) → list (p .memory) out .answer ≡ Listed-not-sound → ⊥
 
--- all of it
+-- an out in which the list has room
+pub record Room (p : Past) : Type 0 where
+  pub out : List ℕ
+  pub letters : ℕ
+  pub done : list (p .memory) out .answer ≡ Done letters
+
+-- DEMAND 3
 pub record Holds (p : Past) : Type 0 where
   pub order : InOrder p
+  pub room : Room p
   pub once : EachOnce p
-  pub sound : NeverStuck p
+  pub stuck : NeverStuck p
