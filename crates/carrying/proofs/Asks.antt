@@ -24,7 +24,7 @@ use Rattle.postman.specs.declared.Round.{Round}
 use Rattle.postman.specs.Position.{at, atRest}
 use Rattle.postman.specs.Round.{Did, did, Post, post, onStage, into, blocksBack}
 use Rattle.postman.specs.Asked.{SoundAt, Waits, Owes}
-use Rattle.postman.specs.Steps.{firstOf, spaceOf, copiedIn, queued, acknowledged, carried, carriedAll, collected, collectedAll, collectedFrom}
+use Rattle.stages_keep.specs.Steps.{firstOf, spaceOf, copiedIn, queued, acknowledged, carried, carriedAll, collected, collectedAll, collectedFrom}
 use Rattle.stages_keep.proofs.Laws.{copied-stands, queued-stands, carried-next, carried-all, collected-next, names-in, names-apart, names-waits}
 use Rattle.stages.specs.Asked.{Lent, HasQueue, HasFirst, GaveBack}
 use Rattle.stages.proofs.Stood.{stood-sized, stood-lent, stood-stretch, stood-send, stood-ack}

@@ -12,7 +12,7 @@ use Rattle.postman.specs.declared.Stage.{Stage}
 use Rattle.postman.specs.declared.Stage.the-variants.{Done, Stopped}
 use Rattle.postman.specs.declared.Round.{Round}
 use Rattle.postman.specs.Round.{Did, Post, post, onStage, stage, andThen, into, stopped, oneLetter}
-use Rattle.postman.specs.Steps.{queued, acknowledged, copiedIn, sendDropped, spaceOf, handedOn, delivered, carried, carriedAll, collected, collectedAll, collectedFrom}
+use Rattle.stages_keep.specs.Steps.{queued, acknowledged, copiedIn, sendDropped, spaceOf, handedOn, delivered, carried, carriedAll, collected, collectedAll, collectedFrom}
 
 by-stage : (P : Post → Type 0) (h : Stage) (a b : Post) → P a → P b → P (onStage h a b)
 by-stage P Done a b x y = y

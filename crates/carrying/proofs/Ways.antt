@@ -10,7 +10,7 @@ use Rattle.postman.specs.declared.Stage.{Stage}
 use Rattle.postman.specs.declared.Stage.the-variants.{Done, Stopped}
 use Rattle.postman.specs.declared.Round.{Round}
 use Rattle.postman.specs.Round.{Did, did, Post, post, onStage, stage, andThen, into}
-use Rattle.postman.specs.Steps.{carried, carriedAll, carriedFrom, collected, collectedAll, collectedFrom}
+use Rattle.stages_keep.specs.Steps.{carried, carriedAll, carriedFrom, collected, collectedAll, collectedFrom}
 
 -- ---- a stage that stopped, and one that was done
 module _ (stop : Stage → Round) (go : List ℕ → Post) {d : Did} {m : List ℕ} {h : Stage} where

@@ -12,7 +12,7 @@ ghost use Rattle.sound.specs.Reading.{sendItems, ackItems};
 ghost use Rattle.postman.specs.Position.{at, atRest};
 ghost use Rattle.postman.specs.Round.{post};
 ghost use Rattle.postman.specs.Asked.{SoundAt};
-ghost use Rattle.postman.specs.Steps.{
+ghost use Rattle.stages_keep.specs.Steps.{
   spaceOf,
   handedOn,
   delivered,

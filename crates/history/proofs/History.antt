@@ -51,7 +51,7 @@ use Rattle.machine.proofs.Sound.{sound-represents}
 use Rattle.machine.proofs.Fresh.{fresh-sound, fresh-represents, fresh-settings, fresh-table}
 use Rattle.machine.proofs.Back.{same-letters}
 use Rattle.moves.specs.Letters.{liveOnes}
-use Rattle.moves.specs.Way.{those, between, inQueue, toCarry, onTheWay}
+use Rattle.stages_keep.specs.Way.{those, between, inQueue, toCarry, onTheWay}
 use Rattle.moves.proofs.Items.{all-live}
 use Rattle.moves.proofs.Seats.{task-is}
 use Rattle.send_keeps.proofs.Send.{send-sound, send-fixed, send-refused, send-done, send-allowed}

@@ -33,7 +33,7 @@ use Rattle.machine.specs.Spelled.{letterFrom, nodeFrom, machineOf}
 use Rattle.machine.proofs.Spelled.{first-from}
 use Rattle.machine.proofs.Places.{shown-send, shown-task, begun-low, begun-task}
 use Rattle.moves.specs.Letters.{liveOnes}
-use Rattle.moves.specs.Way.{those, between, inQueue, toCarry, onTheWay}
+use Rattle.stages_keep.specs.Way.{those, between, inQueue, toCarry, onTheWay}
 use Rattle.moves.proofs.Seats.{task-is}
 use Rattle.stages_keep.proofs.Way.{those-append}
 use Rattle.history.specs.Demand.{shownIn}

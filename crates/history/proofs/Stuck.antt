@@ -32,7 +32,7 @@ use Rattle.postman.specs.declared.Stage.the-variants.{Done, Stopped}
 use Rattle.postman.specs.declared.Round.{Round}
 use Rattle.postman.specs.Position.{positionOf}
 use Rattle.postman.specs.Round.{atStart}
-use Rattle.postman.specs.Steps.{gone}
+use Rattle.stages_keep.specs.Steps.{gone}
 use Rattle.turn.specs.declared.Turned.{Turned}
 use Rattle.turn.specs.declared.Turned.the-variants.{Finished, Stopped as Turned-stopped, NotSound as Turned-not-sound}
 use Rattle.turn.specs.Outcome.{answered, taken, turn}

@@ -14,7 +14,7 @@ use Rattle.machine.specs.Machine.{Letter, wordsOf, Machine, All}
 use Rattle.machine.specs.Represents.{RightPosition}
 use Rattle.machine.specs.Same.{Unchanged}
 use Rattle.moves.specs.Letters.{liveOnes}
-use Rattle.moves.specs.Way.{those, between, inQueue, toCarry, onTheWay}
+use Rattle.stages_keep.specs.Way.{those, between, inQueue, toCarry, onTheWay}
 use Rattle.send_keeps.specs.Sends.{placeOf, newLetter, Sends}
 use Rattle.send.specs.Outcome.{goalOf}
 use Rattle.receive_keeps.specs.Receives.{asked, Receives}

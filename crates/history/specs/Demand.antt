@@ -21,7 +21,7 @@ use Rattle.turn.specs.declared.Turned.the-variants.{NotSound as Turned-not-soun
 use Rattle.turn.specs.Outcome.{turn}
 use Rattle.machine.specs.Machine.{Machine, many}
 use Rattle.machine.specs.Spelled.{machineOf}
-use Rattle.moves.specs.Way.{those, between}
+use Rattle.stages_keep.specs.Way.{those, between}
 use Rattle.history.specs.Runs.{Past}
 
 -- the letters from a to b that n records of a list show, 'each read at the node and block it names': of a record's six words the first is the

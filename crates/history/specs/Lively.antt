@@ -10,7 +10,7 @@ use Rattle.receive.specs.declared.Received.the-variants.{Done as Received-done}
 use Rattle.receive.specs.Outcome.{receive}
 use Rattle.turn.specs.Outcome.{turn}
 use Rattle.machine.specs.Spelled.{machineOf}
-use Rattle.moves.specs.Way.{onTheWay}
+use Rattle.stages_keep.specs.Way.{onTheWay}
 use Rattle.turn_keeps.specs.Turns.{lettersOf, Turns as CarriesLetters}
 use Rattle.history.specs.Runs.{Sends, Receives, Past, sentLetter, afterCall}
 

@@ -1,4 +1,3 @@
 pub mod Position
 pub mod Round
-pub mod Steps
 pub mod Asked

@@ -36,7 +36,7 @@ use Rattle.postman.specs.declared.Stage.the-variants.{Done, Stopped}
 use Rattle.postman.specs.Position.{atRest}
 use Rattle.postman.specs.Round.{did}
 use Rattle.postman.specs.Asked.{SoundAt, Waits}
-use Rattle.postman.specs.Steps.{firstOf, copiedIn, sendDropped}
+use Rattle.stages_keep.specs.Steps.{firstOf, copiedIn, sendDropped}
 use Rattle.stages.specs.Asked.{Lent, Begins, HasQueue, HasFirst, MayTake}
 use Rattle.stages.proofs.Stood.{stood-sized, stood-lent, stood-stretch, stood-free, stood-send, stood-other, stood-sent}
 

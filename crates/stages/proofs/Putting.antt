@@ -28,7 +28,7 @@ use Rattle.postman.specs.declared.Stage.the-variants.{Stopped}
 use Rattle.postman.specs.Position.{at}
 use Rattle.postman.specs.Round.{did}
 use Rattle.postman.specs.Asked.{SoundAt}
-use Rattle.postman.specs.Steps.{onAppend, firstOf, queueFor, queued, acknowledged}
+use Rattle.stages_keep.specs.Steps.{onAppend, firstOf, queueFor, queued, acknowledged}
 use Rattle.stages_keep.proofs.Laws.{names-in, names-waits}
 use Rattle.stages.specs.Asked.{Addressed, HasQueue, HasTaskQueue, HasFirst, Holds}
 use Rattle.stages.proofs.Stood.{stood-lent, stood-sized, stood-table, stood-send, stood-ack, stood-task, stood-held}

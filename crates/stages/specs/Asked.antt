@@ -16,7 +16,7 @@ use Rattle.sound.specs.Letters.{chainFrom, endsWell, wordsFrom, rightLength, ri
 use Rattle.postman.specs.declared.Round.{Round}
 use Rattle.postman.specs.Position.{at}
 use Rattle.postman.specs.Asked.{SoundAt}
-use Rattle.postman.specs.Steps.{collected}
+use Rattle.stages_keep.specs.Steps.{collected}
 
 -- node i's stretch of a memory as long as the settings say
 pub record Lent (s : Settings) (m : List ℕ) (i : ℕ) : Type 0 where

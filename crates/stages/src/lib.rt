@@ -18,7 +18,7 @@ ghost use Rattle.sound.specs.Letters.{toldLength, wordsFrom};
 ghost use Rattle.postman.specs.Position.{at};
 ghost use Rattle.postman.specs.Round.{did};
 ghost use Rattle.postman.specs.Asked.{SoundAt, Waits, Owes};
-ghost use Rattle.postman.specs.Steps.{
+ghost use Rattle.stages_keep.specs.Steps.{
   onAppend,
   firstOf,
   copiedIn,

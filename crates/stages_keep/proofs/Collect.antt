@@ -22,7 +22,7 @@ use Rattle.moves.proofs.Formed.{at-here, at-other}
 use Rattle.moves.proofs.Works.{acknowledge-works}
 use Rattle.postman.specs.declared.Round.{Round}
 use Rattle.postman.specs.Position.{at, atRest}
-use Rattle.postman.specs.Steps.{collected}
+use Rattle.stages_keep.specs.Steps.{collected}
 use Rattle.stages_keep.proofs.Standing.{Front, withPosition, front-with, front-then, goes-midway, here-rest}
 use Rattle.stages_keep.proofs.Shown.{ack-shown, chain-shown}
 use Rattle.stages_keep.proofs.Going.{Is, Goes, still-way}

@@ -22,7 +22,7 @@ use Rattle.machine.specs.Machine.{Letter, gap, first, firsts, Live, wordsOf, No
 use Rattle.machine.specs.Represents.{Right}
 use Rattle.machine.proofs.Gives.{gives-stretch, gives-list, gives-letter}
 use Rattle.moves.specs.Letters.{liveOnes}
-use Rattle.moves.specs.Way.{toCarry}
+use Rattle.stages_keep.specs.Way.{toCarry}
 use Rattle.moves.proofs.Made.{placed, Working}
 use Rattle.moves.proofs.Memory.{with-long, with-node, node-with, with-with}
 use Rattle.moves.proofs.Queues.{length-counted}
@@ -34,7 +34,7 @@ use Rattle.moves.proofs.Hands.{hold-long, hold-works}
 use Rattle.postman.specs.declared.Stage.the-variants.{Done, Stopped}
 use Rattle.postman.specs.Position.{at, atRest}
 use Rattle.postman.specs.Round.{Did, did, onStage}
-use Rattle.postman.specs.Steps.{firstOf, spaceOf, copiedIn}
+use Rattle.stages_keep.specs.Steps.{firstOf, spaceOf, copiedIn}
 use Rattle.stages_keep.proofs.Standing.{Midway, Here, Beside, withPosition, front-with, goes-midway, here-at, here-hold}
 use Rattle.stages_keep.proofs.Shown.{send-shown, told-shown, first-live, first-right}
 use Rattle.stages_keep.proofs.Going.{Is, Goes, still-way, right-hand}

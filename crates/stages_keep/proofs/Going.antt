@@ -19,7 +19,7 @@ use Rattle.sound.specs.Letters.{rightHeader, fromTo, rightPlace}
 use Rattle.machine.specs.Machine.{Letter, wordsOf, Node, Machine}
 use Rattle.machine.specs.Represents.{Right}
 use Rattle.moves.specs.Letters.{liveOnes}
-use Rattle.moves.specs.Way.{toCarry, Carries}
+use Rattle.stages_keep.specs.Way.{toCarry, Carries}
 use Rattle.moves.proofs.Seats.{bound-some, task-is}
 use Rattle.postman.specs.declared.Position.{Position}
 use Rattle.stages_keep.proofs.Standing.{Midway, Here, withPosition}

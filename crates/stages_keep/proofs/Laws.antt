@@ -21,7 +21,7 @@ use Rattle.postman.specs.declared.Position.{Position}
 use Rattle.postman.specs.declared.Round.{Round}
 use Rattle.postman.specs.Position.{at, atRest, positionOf, standing}
 use Rattle.postman.specs.Round.{Post, atStart, onStage, oneLetter, stage}
-use Rattle.postman.specs.Steps.{spaceOf, copiedIn, queued, acknowledged, handedOn, delivered, carried, carriedAll, collected}
+use Rattle.stages_keep.specs.Steps.{spaceOf, copiedIn, queued, acknowledged, handedOn, delivered, carried, carriedAll, collected}
 use Rattle.postman.specs.Asked.{SoundAt, Waits, Owes}
 use Rattle.stages_keep.proofs.Standing.{machineAt, stands-represents, midway-of, here-of, stands-midway}
 use Rattle.stages_keep.proofs.Shown.{some-of, send-shown, ack-shown}

@@ -31,7 +31,7 @@ use Rattle.moves.proofs.Hands.{resume-works, resume-gap-works}
 use Rattle.postman.specs.declared.Stage.the-variants.{Done, Stopped}
 use Rattle.postman.specs.Position.{at}
 use Rattle.postman.specs.Round.{Did, did, onStage}
-use Rattle.postman.specs.Steps.{onAppend, queueFor, queued}
+use Rattle.stages_keep.specs.Steps.{onAppend, queueFor, queued}
 use Rattle.stages_keep.proofs.Standing.{Midway, Here, Front, Beside, withPosition, front-with, goes-midway, here-at, here-hold}
 use Rattle.stages_keep.proofs.Shown.{words-shown, first-live, first-right}
 use Rattle.stages_keep.proofs.Way.{carries-one}

@@ -20,7 +20,7 @@ use Rattle.machine.specs.Machine.{Letter, first, firsts, Node, Machine}
 use Rattle.machine.proofs.Letters.{length-firsts}
 use Rattle.machine.proofs.Gives.{gives-stretch, gives-ack}
 use Rattle.moves.specs.Letters.{liveOnes}
-use Rattle.moves.specs.Way.{toCarry}
+use Rattle.stages_keep.specs.Way.{toCarry}
 use Rattle.moves.proofs.Made.{placed, Working}
 use Rattle.moves.proofs.Memory.{with-long, with-node}
 use Rattle.moves.proofs.Rising.{ack-full-works}
@@ -29,7 +29,7 @@ use Rattle.postman.specs.declared.Stage.{Stage}
 use Rattle.postman.specs.declared.Stage.the-variants.{Done, Stopped}
 use Rattle.postman.specs.Position.{at, atRest}
 use Rattle.postman.specs.Round.{Did, did, onStage}
-use Rattle.postman.specs.Steps.{onAppend, firstOf, acknowledged, sendDropped}
+use Rattle.stages_keep.specs.Steps.{onAppend, firstOf, acknowledged, sendDropped}
 use Rattle.stages_keep.proofs.Standing.{Front, withPosition, front-with, front-then, goes-midway, here-rest, here-at}
 use Rattle.stages_keep.proofs.Shown.{send-shown}
 use Rattle.stages_keep.proofs.Way.{carry-stage, carry-away, carry-over, carry-same, carries-none}

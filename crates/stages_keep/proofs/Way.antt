@@ -16,7 +16,7 @@ use Rattle.tasks.specs.Table.{nodeOf, queueOf, rightTable}
 use Rattle.tasks.proofs.Laws.{seat-below}
 use Rattle.machine.specs.Machine.{Letter, wordsOf, Machine}
 use Rattle.moves.specs.Letters.{liveOnes}
-use Rattle.moves.specs.Way.{those, between, isFrom, isFor, inQueue, toCarry, onTheWay, SameWay, Carries}
+use Rattle.stages_keep.specs.Way.{those, between, isFrom, isFor, inQueue, toCarry, onTheWay, SameWay, Carries}
 
 module _ (p : List ℕ → Bool) where
   pub those-append : (xs ys : List (List ℕ)) → those p (xs ++ ys) ≡ those p xs ++ those p ys

@@ -15,14 +15,14 @@ use Rattle.layout.specs.Places.{nodes}
 use Rattle.sound.specs.Reading.{tableIn, sendItems, ackItems}
 use Rattle.machine.specs.Machine.{Letter, firsts, wordsOf, Machine}
 use Rattle.machine.proofs.Letters.{length-firsts}
-use Rattle.moves.specs.Way.{Carries}
+use Rattle.stages_keep.specs.Way.{Carries}
 use Rattle.postman.specs.declared.Stage.{Stage}
 use Rattle.postman.specs.declared.Stage.the-variants.{Done, Stopped}
 use Rattle.postman.specs.declared.Position.{Position}
 use Rattle.postman.specs.declared.Round.{Round}
 use Rattle.postman.specs.Position.{at, atRest}
 use Rattle.postman.specs.Round.{Did, Post, post, onStage, stopped, oneLetter, stage, andThen, into}
-use Rattle.postman.specs.Steps.{spaceOf, copiedIn, queued, acknowledged, sendDropped, handedOn, delivered, carried, carriedAll, carriedFrom, collected, collectedAll, collectedFrom, clearsFirst, resumed, gone}
+use Rattle.stages_keep.specs.Steps.{spaceOf, copiedIn, queued, acknowledged, sendDropped, handedOn, delivered, carried, carriedAll, carriedFrom, collected, collectedAll, collectedFrom, clearsFirst, resumed, gone}
 use Rattle.stages_keep.proofs.Standing.{withPosition, here-rest, goes-midway}
 use Rattle.stages_keep.proofs.Shown.{some-of, send-shown, ack-shown}
 use Rattle.stages_keep.proofs.Way.{carries-none, carries-then}

@@ -1,1 +1,1 @@
-// Theorems alone: each stage of a turn leads from a sound memory to a sound memory, the postman's position amended.
+// The stages and steps of a turn as definitions, and that each leads from a sound memory to a sound memory, the position amended. Theorems only.

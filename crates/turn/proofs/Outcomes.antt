@@ -18,7 +18,7 @@ use Rattle.postman.specs.declared.Round.{Round}
 use Rattle.postman.specs.Position.{positionOf, kept}
 use Rattle.postman.specs.Round.{Post, post, atStart}
 use Rattle.postman.specs.Asked.{SoundAt}
-use Rattle.postman.specs.Steps.{gone}
+use Rattle.stages_keep.specs.Steps.{gone}
 use Rattle.stages_keep.proofs.Laws.{begins}
 use Rattle.turn.specs.declared.Turned.{Turned}
 use Rattle.turn.specs.declared.Turned.the-variants.{Finished, Stopped, NotSound}

@@ -14,7 +14,7 @@ use Rattle.postman.specs.declared.Round.{Round}
 use Rattle.postman.specs.Position.{at, atRest}
 use Rattle.postman.specs.Round.{Post, post, atStart}
 use Rattle.postman.specs.Asked.{SoundAt}
-use Rattle.postman.specs.Steps.{handedOn, delivered, collectedFrom, clearsFirst, resumed}
+use Rattle.stages_keep.specs.Steps.{handedOn, delivered, collectedFrom, clearsFirst, resumed}
 use Rattle.stages_keep.proofs.Laws.{handed-rest, delivered-rest, rests}
 use Rattle.stages.proofs.Stood.{stood-last}
 use Rattle.carrying.specs.Asked.{Delivers, CarriesFrom, CollectsFrom}

@@ -11,7 +11,7 @@ use Rattle.postman.specs.declared.Stage.the-variants.{Done, Stopped as Halted}
 use Rattle.postman.specs.declared.Round.{Round}
 use Rattle.postman.specs.Position.{positionOf, kept}
 use Rattle.postman.specs.Round.{Post, atStart}
-use Rattle.postman.specs.Steps.{gone}
+use Rattle.stages_keep.specs.Steps.{gone}
 use Rattle.turn.specs.declared.Turned.{Turned}
 use Rattle.turn.specs.declared.Turned.the-variants.{Finished, Stopped, NotSound}
 

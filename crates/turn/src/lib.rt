@@ -9,7 +9,7 @@ ghost use mathlib.Core.Bool.{true};
 ghost use Rattle.sound.specs.Sound.{sound};
 ghost use Rattle.postman.specs.Round.{post, atStart};
 ghost use Rattle.postman.specs.Asked.{SoundAt};
-ghost use Rattle.postman.specs.Steps.{resumed, gone};
+ghost use Rattle.stages_keep.specs.Steps.{resumed, gone};
 ghost use Rattle.turn.specs.Outcome.{told, answered, turn};
 
 // What a turn answers: node, letters appended to task queues, blocks given back; first the number where it stopped.

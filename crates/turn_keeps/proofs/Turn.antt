@@ -23,7 +23,7 @@ use Rattle.machine.specs.Represents.{RepresentsAt, Represents}
 use Rattle.machine.specs.Same.{Fixed}
 use Rattle.machine.proofs.Back.{represents-sound-at, same-turn, same-stage, same-other, same-letters}
 use Rattle.moves.specs.Letters.{liveOnes}
-use Rattle.moves.specs.Way.{those, isFrom, isFor, inQueue, toCarry, Carries}
+use Rattle.stages_keep.specs.Way.{those, isFrom, isFor, inQueue, toCarry, Carries}
 use Rattle.moves.proofs.Memory.{set-settings, set-table}
 use Rattle.moves.proofs.Kept.{turn-kept}
 use Rattle.postman.specs.declared.Stage.{Stage}
@@ -32,7 +32,7 @@ use Rattle.postman.specs.declared.Position.{Position}
 use Rattle.postman.specs.declared.Round.{Round}
 use Rattle.postman.specs.Position.{at, atRest, positionOf, standing, nextTurn, kept}
 use Rattle.postman.specs.Round.{Post, atStart, onStage}
-use Rattle.postman.specs.Steps.{gone}
+use Rattle.stages_keep.specs.Steps.{gone}
 use Rattle.postman.specs.Asked.{SoundAt}
 use Rattle.stages_keep.proofs.Standing.{machineAt, represents-midway, stand-settings, stand-table, stand-length}
 use Rattle.stages_keep.proofs.Going.{Is}

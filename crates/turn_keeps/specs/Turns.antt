@@ -4,7 +4,7 @@ use mathlib.Core.List.{List}
 use Prim.Native.Nat.{ℕ}
 use lib.ListN.{length}
 use Rattle.machine.specs.Machine.{Machine}
-use Rattle.moves.specs.Way.{SameWay, Carries}
+use Rattle.stages_keep.specs.Way.{SameWay, Carries}
 use Rattle.postman.specs.Position.{nextTurn}
 use Rattle.turn.specs.declared.Turned.{Turned}
 use Rattle.turn.specs.declared.Turned.the-variants.{Finished, Stopped, NotSound}

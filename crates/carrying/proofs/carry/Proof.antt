@@ -1,7 +1,7 @@
 -- `carrying::carry` meets its contract. Assumes nothing.
 use mathlib.Core.Path.{_∙_}
 use borrow.Author.Needs.{needs}
-use Rattle.postman.specs.Steps.{carried}
+use Rattle.stages_keep.specs.Steps.{carried}
 use Rattle.carrying.proofs.Asks.{carry-lent, carry-deliver}
 use Rattle.carrying.proofs.Ways.{stage-stop, stage-go}
 use Rattle.carrying.proofs.carry.Statement.{statement}

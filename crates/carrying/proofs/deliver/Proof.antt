@@ -1,7 +1,7 @@
 -- `carrying::deliver` meets its contract. Assumes nothing.
 use mathlib.Core.Path.{_∙_}
 use borrow.Author.Needs.{needs}
-use Rattle.postman.specs.Steps.{delivered}
+use Rattle.stages_keep.specs.Steps.{delivered}
 use Rattle.carrying.proofs.Asks.{deliver-there, deliver-hand}
 use Rattle.carrying.proofs.Ways.{stage-stop, stage-go}
 use Rattle.carrying.proofs.deliver.Statement.{statement}

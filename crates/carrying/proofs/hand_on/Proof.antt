@@ -1,6 +1,6 @@
 -- `carrying::hand_on` meets its contract. Assumes nothing.
 use borrow.Author.Needs.{needs}
-use Rattle.postman.specs.Steps.{handedOn}
+use Rattle.stages_keep.specs.Steps.{handedOn}
 use Rattle.carrying.proofs.Asks.{hand-there, hand-first}
 use Rattle.carrying.proofs.Ways.{stage-stop, stage-go}
 use Rattle.carrying.proofs.hand_on.Statement.{statement}

@@ -2,7 +2,7 @@
 use mathlib.Core.Path.{_∙_}
 use borrow.Author.Needs.{needs}
 use Rattle.carrying.proofs.Ways.{then-stop, then-go}
-use Rattle.postman.specs.Steps.{gone}
+use Rattle.stages_keep.specs.Steps.{gone}
 use Rattle.turn.proofs.Resumes.{resume-carries}
 use Rattle.turn.proofs.go.Statement.{statement}
 use Rattle.turn.proofs.go.Tie as tie

@@ -76,15 +76,15 @@ module _ (s : Settings) (j : ℕ) where
   queued m c =
       did (withNode s m j (taskAppended s (node s m j) (queueFor m c) c)) (onAppend (taskAnswer s (node s m j) (queueFor m c)) queueFull)
 
+  -- 'drop the send item'
+  abbrev pub sendDropped : List ℕ → ℕ → List ℕ
+  sendDropped m i = withNode s m i (dropped (sendKind s) (node s m i) (sendAt s j))
+
   -- stage 3: 'append the source's block to j's acknowledge queue for that node'
   unfoldable pub acknowledged : List ℕ → ℕ → Did
   acknowledged m i =
       did (withNode s m j (appended (ackKind s) (node s m j) (ackAt s i) (firstOf m i)))
       (onAppend (appendAnswer (ackKind s) (node s m j) (ackAt s i)) acknowledgeQueueFull)
-
-  -- 'drop the send item'
-  abbrev pub sendDropped : List ℕ → ℕ → List ℕ
-  sendDropped m i = withNode s m i (dropped (sendKind s) (node s m i) (sendAt s j))
 
   -- from each stage on
   unfoldable pub handedOn : List ℕ → ℕ → Round → Post
