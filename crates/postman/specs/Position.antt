@@ -16,6 +16,13 @@ at stage i x = record { stage = stage; other = i; held = x }
 abbrev pub atRest : Position
 atRest = at 0 0 0
 
+-- a position amended: 'the stage becomes 1, 2 or 3', and 'A turn that finishes sets stage 0'
+abbrev pub stoppedAt : Position → ℕ → ℕ → ℕ → Position
+stoppedAt p stage i x = at stage i x
+
+abbrev pub restedAt : Position → Position
+restedAt p = atRest
+
 -- the position of node j's postman
 abbrev pub positionOf : List ℕ → ℕ → Position
 positionOf m j = at (stageOf m j) (otherOf m j) (heldOf m j)

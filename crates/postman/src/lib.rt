@@ -3,7 +3,7 @@ ghost use mathlib.Core.Path.{_≡_};
 ghost use Prim.Native.Nat.{_+_, _≤_, _<_};
 ghost use lib.ListN.{length};
 ghost use Rattle.layout.specs.Places.{nodes, nodesAt};
-ghost use Rattle.postman.specs.Position.{positionOf, kept};
+ghost use Rattle.postman.specs.Position.{stoppedAt, restedAt, positionOf, kept};
 ghost use Rattle.postman.specs.Round.{atStart, stopped, oneLetter, blocksBack};
 
 // How a stage ends: done, or stopped with the refusal's number.
@@ -58,15 +58,63 @@ pub fn keep(memory: &mut [u32], j: usize, p: Position)
     }
 }
 
-// A turn as it begins.
-pub fn start() -> Round
-    ensures { λ r. ⌜ r ≡ atStart ⌝ }
+// The position at a stage, by value: the core.
+fn stopped_at(p: Position, stage: u32, other: u32, held: u32) -> Position
+    ensures { λ r. ⌜ r ≡ stoppedAt p stage other held ⌝ }
 {
-    let position = Position {
+    Position { stage, other, held }
+}
+
+// The stage becomes 1, 2 or 3: the position amended where it stands.
+pub fn stop_at(p: &mut Position, stage: u32, other: u32, held: u32)
+    ensures { λ _. ⌜ now (p .exit) ≡ stoppedAt (now (p .entry)) stage other held ⌝ }
+{
+    let q = *p;
+    *p = stopped_at(q, stage, other, held);
+}
+
+// By value again, for callers with branches.
+fn amended(p: Position, stage: u32, other: u32, held: u32) -> Position
+    ensures { λ r. ⌜ r ≡ stoppedAt p stage other held ⌝ }
+{
+    let mut q = p;
+    stop_at(&mut q, stage, other, held);
+    q
+}
+
+// The position at rest, by value: the core.
+fn at_rest(p: Position) -> Position
+    ensures { λ r. ⌜ r ≡ restedAt p ⌝ }
+{
+    Position {
         stage: 0,
         other: 0,
         held: 0,
-    };
+    }
+}
+
+// A turn that finishes sets stage 0: the position amended where it stands.
+pub fn rest(p: &mut Position)
+    ensures { λ _. ⌜ now (p .exit) ≡ restedAt (now (p .entry)) ⌝ }
+{
+    let q = *p;
+    *p = at_rest(q);
+}
+
+// By value again, for callers with branches.
+fn rested(p: Position) -> Position
+    ensures { λ r. ⌜ r ≡ restedAt p ⌝ }
+{
+    let mut q = p;
+    rest(&mut q);
+    q
+}
+
+// A turn as it begins, from position p: where no stage stops it, it leaves the postman at rest.
+pub fn start(p: Position) -> Round
+    ensures { λ r. ⌜ r ≡ atStart ⌝ }
+{
+    let position = rested(p);
     let how = Stage::Done;
     Round {
         position,
@@ -81,11 +129,8 @@ pub fn stop(r: Round, stage: u32, i: usize, x: u32, how: Stage) -> Round
     requires { ⌜ i < nodes ⌝ }
     ensures { λ a. ⌜ a ≡ stopped r stage i x how ⌝ }
 {
-    let position = Position {
-        stage,
-        other: i as u32,
-        held: x,
-    };
+    let was = r.position;
+    let position = amended(was, stage, i as u32, x);
     Round {
         position,
         letters: r.letters,

@@ -42,7 +42,7 @@ fn go(memory: &mut [u32], s: Settings, j: usize, p: Position) -> Round
     requires { ⌜ SoundAt s (now memory) j p ⌝ }
     ensures { λ a. ⌜ post (now (memory .exit)) a ≡ gone s j (now (memory .entry)) p atStart ⌝ }
 {
-    let r = postman::start();
+    let r = postman::start(p);
     let a = resume(memory, s, j, p, r);
     let how = a.how;
     let Stage::Done = how else {
