@@ -4,7 +4,7 @@ use std::collections::{BTreeMap, BTreeSet, VecDeque};
 use std::fmt::Debug;
 
 use crate::blocks::{chain, free_list, letter};
-use crate::cover::{cover, ANSWERS, STAGES};
+use crate::cover::cover;
 use crate::damage::{damaged_by, CERTAIN};
 use crate::layout::*;
 use crate::mail::{self, Answer, RECORD_WORDS};
@@ -13,7 +13,7 @@ use crate::queues::{close_gaps, items};
 use crate::random::Random;
 use crate::run;
 use crate::script::{counted, play, script, Done, Reader, Step};
-use crate::sound::{position, sound, Rule};
+use crate::sound::{position, sound};
 use crate::table::Table;
 use crate::traffic::{begin, Phase};
 
@@ -379,24 +379,8 @@ fn bad_scripts() -> Outcome {
 }
 
 fn calls_cover_all() -> Outcome {
-    let cover = cover(&make::calls_script(1, 10_000));
-    for (name, numbers) in ANSWERS {
-        for &number in numbers {
-            holds(cover.answered(name, number) > 0, || format!("{name} never answers {number}"))?;
-        }
-    }
-    for from in STAGES {
-        for to in STAGES {
-            holds(cover.went(from, to) > 0, || format!("no turn goes from stage {from} to {to}"))?;
-        }
-    }
-    for rule in Rule::ALL {
-        holds(cover.broken(rule) > 0, || format!("{rule:?} never"))?;
-    }
-    for (what, times) in cover.gaps_closed.iter().chain(&cover.round).chain(&cover.counts_ended).chain(&cover.bodies) {
-        holds(*times > 0, || format!("{what} never"))?;
-    }
-    equal("bad", cover.bad, false)
+    let script = [make::ends_script(1), make::calls_script(1, 10_000)].concat();
+    equal("never", cover(&script).missing(), Vec::new())
 }
 
 fn setups_cover_all() -> Outcome {

@@ -2,7 +2,7 @@
 
 use std::collections::BTreeMap;
 
-use crate::layout::{Queue, Settings, NODES, TASK_QUEUES, TURN};
+use crate::layout::{Queue, Settings, NODES, RANGES, TASK_QUEUES, TURN};
 use crate::queues::item_count;
 use crate::script::{Bad, Done, Player, Reader, Step};
 use crate::sound::{position, sound, Rule};
@@ -16,7 +16,15 @@ pub const ANSWERS: [(&str, &[u32]); 5] = [
     ("list", &[0, 1, 11]),
 ];
 /// Every stage that a turn can begin or end at; 0 is none.
-pub const STAGES: [u32; 4] = [0, 1, 2, 3];
+const STAGES: [u32; 4] = [0, 1, 2, 3];
+/// Every call with the numbers by which a count rises.
+const COUNTED: [(&str, &[u32]); 3] = [("send", &[5, 6]), ("receive", &[7, 8]), ("turn", &[5, 6, 10])];
+/// The settings in their order, each with its least and its greatest value.
+const LETTERS: [&str; 5] = ["B", "M", "S", "A", "T"];
+/// What is counted by a name of its own: gaps closed, queues that run round, bodies.
+const CLOSERS: [&str; 2] = ["send", "turn"];
+const CLASSES: [&str; 3] = ["send", "acknowledge", "task"];
+const BODIES: [&str; 3] = ["0 words", "1,019 words", "other"];
 
 /// How often each thing has occurred in a script.
 #[derive(Default)]
@@ -26,13 +34,19 @@ pub struct Cover {
     /// Turns that began at a stage and ended at a stage, 0 when finished.
     stages: BTreeMap<(u32, u32), usize>,
     /// Task queues whose gaps were closed, by call.
-    pub gaps_closed: BTreeMap<&'static str, usize>,
+    gaps_closed: BTreeMap<&'static str, usize>,
     /// Queues seen to run round their end after a call, by class.
-    pub round: BTreeMap<&'static str, usize>,
+    round: BTreeMap<&'static str, usize>,
     /// Letters sent, by body length: none, some, the greatest.
-    pub bodies: BTreeMap<&'static str, usize>,
-    /// Refusals whose count already stood at its end, by call.
-    pub counts_ended: BTreeMap<&'static str, usize>,
+    bodies: BTreeMap<&'static str, usize>,
+    /// Refusals whose count already stood at its end, by call and number.
+    counts_ended: BTreeMap<(&'static str, u32), usize>,
+    /// Turns of each node that brought letters, and that stopped.
+    brought: [usize; NODES],
+    stopped: [usize; NODES],
+    /// Letters sent and received with a setting at its least, and at its greatest.
+    least: [usize; 5],
+    greatest: [usize; 5],
     /// Calls refused by 1, by the rule found broken.
     rules: BTreeMap<Rule, usize>,
     /// If the script is bad.
@@ -89,6 +103,14 @@ impl Cover {
             let node = before[TURN] as usize;
             let [from, to] = [before, after].map(|memory| position(memory, node)[0]);
             *self.stages.entry((from, to)).or_default() += 1;
+            self.brought[node] += usize::from(done.answer.values[1] > 0);
+            self.stopped[node] += usize::from(number != 0);
+        }
+        if let (Step::Send { .. } | Step::Receive { .. }, 0) = (step, number) {
+            for (k, (least, greatest)) in RANGES.into_iter().enumerate() {
+                self.least[k] += usize::from(before[k] == least);
+                self.greatest[k] += usize::from(before[k] == greatest);
+            }
         }
         if let (Step::Send { length, .. }, 0) = (step, number) {
             let kind = match length {
@@ -107,8 +129,38 @@ impl Cover {
         }
         let counted = [5, 6, 7, 8, 10].contains(&number);
         if counted && set.count_places().into_iter().all(|place| before[place] == after[place]) {
-            *self.counts_ended.entry(name).or_default() += 1;
+            *self.counts_ended.entry((name, number)).or_default() += 1;
         }
+    }
+
+    /// Every thing that can occur, under its title, with how often it did.
+    fn all(&self) -> Vec<(&'static str, Vec<(String, usize)>)> {
+        let times = |map: &BTreeMap<(&'static str, u32), usize>, lists: &[(&'static str, &[u32])]| {
+            let pairs = lists.iter().flat_map(|&(name, numbers)| numbers.iter().map(move |&number| (name, number)));
+            pairs.map(|key| (format!("{} {}", key.0, key.1), map.get(&key).copied().unwrap_or(0))).collect()
+        };
+        let named = |map: &BTreeMap<&'static str, usize>, names: &[&'static str]| {
+            names.iter().map(|&name| (name.to_string(), map.get(name).copied().unwrap_or(0))).collect()
+        };
+        let numbered = |counts: &[usize; NODES]| counts.iter().enumerate().map(|(n, &k)| (n.to_string(), k)).collect();
+        let lettered = |counts: &[usize; 5]| LETTERS.iter().zip(counts).map(|(l, &k)| (l.to_string(), k)).collect();
+        let went = STAGES.into_iter().flat_map(|from| STAGES.map(|to| (from, to)));
+        let went = went.map(|key| (format!("{} to {}", key.0, key.1), self.stages.get(&key).copied().unwrap_or(0)));
+        let rules =
+            Rule::ALL.into_iter().map(|rule| (format!("{rule:?}"), self.rules.get(&rule).copied().unwrap_or(0)));
+        vec![
+            ("answers of each call", times(&self.answers, &ANSWERS)),
+            ("turns by the stage they resumed and the stage they stopped at, 0 is none", went.collect()),
+            ("turns that brought letters, by node", numbered(&self.brought)),
+            ("turns that stopped, by node", numbered(&self.stopped)),
+            ("gaps closed, by call", named(&self.gaps_closed, &CLOSERS)),
+            ("queues that run round after a call, by class", named(&self.round, &CLASSES)),
+            ("letters accepted, by body length", named(&self.bodies, &BODIES)),
+            ("letters sent and received with a setting at its least", lettered(&self.least)),
+            ("letters sent and received with a setting at its greatest", lettered(&self.greatest)),
+            ("counts that had to rise at their end, by call and number", times(&self.counts_ended, &COUNTED)),
+            ("calls refused by 1, by the rule found broken", rules.collect()),
+        ]
     }
 
     /// How often a call gave this answer.
@@ -116,50 +168,30 @@ impl Cover {
         self.answers.get(&(name, number)).copied().unwrap_or(0)
     }
 
-    /// How often a turn began at one stage and ended at another.
-    pub fn went(&self, from: u32, to: u32) -> usize {
-        self.stages.get(&(from, to)).copied().unwrap_or(0)
+    /// What never occurred.
+    pub fn missing(&self) -> Vec<String> {
+        let names = self.all().into_iter().flat_map(|(title, things)| {
+            let never = things.into_iter().filter(|&(_, times)| times == 0);
+            never.map(move |(name, _)| format!("{title}: {name}")).collect::<Vec<_>>()
+        });
+        names.chain(self.bad.then(|| "a script that is not bad".to_string())).collect()
     }
 
-    /// How often this rule was found broken.
-    pub fn broken(&self, rule: Rule) -> usize {
-        self.rules.get(&rule).copied().unwrap_or(0)
-    }
-
-    /// The whole as text; what never occurred stands with 0.
+    /// The whole as text, and at its end what never occurred.
     pub fn text(&self) -> String {
-        let mut text = String::from("answers of each call, as number x times:\n");
-        for (name, numbers) in ANSWERS {
-            let times: Vec<String> =
-                numbers.iter().map(|&number| format!("{number} x {}", self.answered(name, number))).collect();
-            text += &format!("  {name}: {}\n", times.join(", "));
+        let mut text = String::new();
+        for (title, things) in self.all() {
+            text += &format!("{title}:\n");
+            for (name, times) in things {
+                text += &format!("  {name}: {times}\n");
+            }
         }
-        text += "turns by the stage they resumed, and the stage they stopped at x times (0 is none):\n";
-        for from in STAGES {
-            let times = STAGES.map(|to| format!("{to} x {}", self.went(from, to)));
-            text += &format!("  {from}: {}\n", times.join(", "));
+        let missing = self.missing();
+        if missing.is_empty() {
+            return text + "all is covered\n";
         }
-        text += &by_name("gaps closed, by call", &self.gaps_closed);
-        text += &by_name("queues that run round after a call, by class", &self.round);
-        text += &by_name("letters accepted, by body length", &self.bodies);
-        text += &by_name("counts that had to rise at their end, by call", &self.counts_ended);
-        text += "calls refused by 1, by the rule found broken:\n";
-        for rule in Rule::ALL {
-            text += &format!("  {rule:?}: {}\n", self.broken(rule));
-        }
-        if self.bad {
-            text += "bad\n";
-        }
-        text
+        text + &format!("never:\n  {}\n", missing.join("\n  "))
     }
-}
-
-fn by_name(title: &str, times: &BTreeMap<&str, usize>) -> String {
-    let mut text = format!("{title}:\n");
-    for (name, times) in times {
-        text += &format!("  {name}: {times}\n");
-    }
-    text
 }
 
 /// All queues with the name of their class.

@@ -5,6 +5,7 @@ mod blocks;
 mod check;
 mod cover;
 mod damage;
+mod ends;
 mod layout;
 mod mail;
 mod make;
@@ -26,8 +27,7 @@ model run < records > lines        runs records as mailrun does
 model make setup SEED > script     makes a script of set-ups
 model make calls SEED [CALLS] > script
                                    makes a script of so many calls of all kinds, 2000 if not given
-model make posts SEED CALLS > script
-                                   the same, a turn's changes written word by word
+model make ends SEED > script      makes a script of letters' ways at the least and greatest settings
 model cover < script               shows what a script covers
 model check                        tests the model itself
 ";
@@ -54,7 +54,7 @@ fn answer(args: &[&str]) -> Option<(Vec<u8>, bool)> {
         ["make", "setup", seed] => make::setup_script(seed.parse().ok()?),
         ["make", "calls", seed] => make::calls_script(seed.parse().ok()?, DEFAULT_CALLS.parse().ok()?),
         ["make", "calls", seed, calls] => make::calls_script(seed.parse().ok()?, calls.parse().ok()?),
-        ["make", "posts", seed, calls] => make::posts_script(seed.parse().ok()?, calls.parse().ok()?),
+        ["make", "ends", seed] => make::ends_script(seed.parse().ok()?),
         ["cover"] => cover::cover(&input()).text().into_bytes(),
         ["check"] => {
             let (text, good) = check::check();

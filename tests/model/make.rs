@@ -3,7 +3,7 @@
 use crate::layout::{Settings, NODES, TABLE_WORDS, TASK_QUEUES, UNBOUND};
 use crate::random::Random;
 use crate::script::{script, Done, Player, Step};
-use crate::{setups, traffic};
+use crate::{ends, setups, traffic};
 
 /// The numbers of all nodes.
 pub const ALL_NODES: [usize; NODES] = [0, 1, 2, 3, 4, 5];
@@ -27,12 +27,11 @@ pub fn calls_script(seed: u64, calls: usize) -> Vec<u8> {
     script(maker.first_calls(calls))
 }
 
-/// The same without turns: what a turn would change is written word by word.
-pub fn posts_script(seed: u64, calls: usize) -> Vec<u8> {
+/// A script of letters' ways at the least and greatest settings.
+pub fn ends_script(seed: u64) -> Vec<u8> {
     let mut maker = Maker::new(seed);
-    maker.turns = false;
-    traffic::make(&mut maker, calls);
-    script(maker.first_calls(calls))
+    ends::make(&mut maker);
+    script(&maker.steps)
 }
 
 /// A script in the making.
@@ -41,13 +40,11 @@ pub struct Maker {
     pub player: Player,
     steps: Vec<Step>,
     calls: usize,
-    /// If it may have turns.
-    turns: bool,
 }
 
 impl Maker {
     pub fn new(seed: u64) -> Maker {
-        Maker { random: Random::new(seed), player: Player::default(), steps: Vec::new(), calls: 0, turns: true }
+        Maker { random: Random::new(seed), player: Player::default(), steps: Vec::new(), calls: 0 }
     }
 
     /// How many calls the script has.
@@ -61,24 +58,10 @@ impl Maker {
 
     /// Adds a step and plays it; a step that can't be played is left out.
     pub fn add(&mut self, step: Step) -> Option<Done> {
-        if !self.turns && matches!(step, Step::Turn) {
-            self.write_turn();
-            return None;
-        }
         let done = self.player.play(&step).ok()?;
         self.steps.push(step);
         self.calls += usize::from(done.is_some());
         done
-    }
-
-    /// Adds what a turn changes, word by word, in the turn's place.
-    fn write_turn(&mut self) {
-        let before = self.player.memory.clone();
-        if self.player.play(&Step::Turn).is_err() {
-            return;
-        }
-        let words = before.iter().zip(&self.player.memory).enumerate().filter(|(_, (old, new))| old != new);
-        self.steps.extend(words.map(|(index, (_, &value))| Step::Word { index, value }));
     }
 
     /// The steps up to so many calls.

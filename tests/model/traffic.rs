@@ -280,7 +280,7 @@ impl Phase {
 }
 
 /// The place of a count that this step would raise.
-fn rising_count(player: &Player, step: &Step) -> Option<usize> {
+pub fn rising_count(player: &Player, step: &Step) -> Option<usize> {
     let set = sound(&player.memory).ok()?;
     let mut trial = player.clone();
     trial.play(step).ok()?;

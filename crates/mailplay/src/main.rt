@@ -99,6 +99,19 @@ fn play_receive(memory: &mut [u32], paper: &mut [u32], held: Held, words: [u32; 
     held
 }
 
+// Kind 4: turn.
+fn play_turn(memory: &mut [u32], held: Held) -> Held
+    requires { ⌜ Fits held ⌝ }
+    requires { ⌜ length (now memory) ≡ 512180 ⌝ }
+    ensures { λ r. ⌜ Fits r ⌝ }
+{
+    let m = held.memory;
+    let answer = turn::turn(&mut memory[0..m]);
+    script::print_answer(turn::number_of(answer));
+    script::print_number(script::sum(&memory[0..m]), b" 0\n");
+    held
+}
+
 // Kind 5: list.
 fn play_list(memory: &[u32], paper: &mut [u32], held: Held, n: u32, f: u32) -> Held
     requires { ⌜ Fits held ⌝ }
@@ -185,7 +198,7 @@ fn count(kind: u32) -> usize
     }
 }
 
-// A call, of kinds 1, 2, 3 and 5.
+// A call, of kinds 1 to 5.
 fn play_call(
     memory: &mut [u32],
     table: &[u32],
@@ -204,6 +217,7 @@ fn play_call(
         1 => play_set_up(memory, table, held, words),
         2 => play_send(memory, paper, held, words),
         3 => play_receive(memory, paper, held, words),
+        4 => play_turn(memory, held),
         5 => play_list(memory, paper, held, words[0], words[1]),
         _ => bad(held),
     }

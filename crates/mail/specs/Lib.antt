@@ -1,0 +1,2 @@
+pub mod Door
+pub mod Determined
