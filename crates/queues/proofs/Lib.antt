@@ -1,4 +1,5 @@
 pub mod Round
+pub mod Slots
 pub mod Ring
 pub mod InRow
 pub mod Items
