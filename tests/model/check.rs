@@ -11,6 +11,7 @@ use crate::mail::{self, Answer, RECORD_WORDS};
 use crate::make::{self, Maker};
 use crate::queues::{close_gaps, items};
 use crate::random::Random;
+use crate::records;
 use crate::run;
 use crate::script::{counted, play, script, Done, Reader, Step};
 use crate::sound::{position, sound};
@@ -20,9 +21,10 @@ use crate::traffic::{begin, Phase};
 type Outcome = Result<(), String>;
 type Test = fn() -> Outcome;
 
-const TESTS: [(&str, Test); 14] = [
+const TESTS: [(&str, Test); 15] = [
     ("the program's fifteen lines", fifteen_lines),
     ("the program's unknown and short records", unknown_records),
+    ("the program's random records meet every refusal that they can", records_meet_all),
     ("eight block counts", block_counts),
     ("sizes of memories", sizes),
     ("closing gaps in (3,0,5) and (3,5)", closing_gaps),
@@ -92,6 +94,20 @@ fn unknown_records() -> Outcome {
     let input = [record(0, 1, 2, 3, 4), record(3, 9, 9, 9, 9), record(4, 27, 52, 0, 0), vec![3, 0, 0, 0, 0, 0, 0]];
     equal("lines", run::run(&input.concat()).as_str(), "1 12 0 0 0\n2 0 0 0 0\n3 12 0 0 0\n4 12 0 0 0\n")?;
     equal("no lines", run::run(&[]).as_str(), "")
+}
+
+/// All but 1 (its memory is sound), 9 (its bodies are shorter than its out) and those of list and set up.
+fn records_meet_all() -> Outcome {
+    let input = records::make(1, 400);
+    let mut met = BTreeSet::new();
+    for (record, line) in input.chunks(8).zip(run::run(&input).lines()) {
+        let number = line.split(' ').nth(1).ok_or("a line with no number")?;
+        met.insert(format!("{} {number}", if record.len() < 8 { 0 } else { record[0].min(4) }));
+    }
+    let wanted =
+        ["1 0", "1 2", "1 3", "1 4", "1 5", "1 6", "2 0", "2 2", "2 3", "2 7", "2 8", "3 0", "3 5", "3 6", "3 10"];
+    let wanted: BTreeSet<String> = wanted.into_iter().chain(["0 12", "4 12"]).map(String::from).collect();
+    equal("kinds with their answers", met, wanted)
 }
 
 fn block_counts() -> Outcome {

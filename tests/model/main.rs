@@ -11,6 +11,7 @@ mod mail;
 mod make;
 mod queues;
 mod random;
+mod records;
 mod run;
 mod script;
 mod setups;
@@ -28,6 +29,8 @@ model make setup SEED > script     makes a script of set-ups
 model make calls SEED [CALLS] > script
                                    makes a script of so many calls of all kinds, 2000 if not given
 model make ends SEED > script      makes a script of letters' ways at the least and greatest settings
+model make records SEED COUNT > records
+                                   makes so many records for mailrun, and a short one
 model cover < script               shows what a script covers
 model check                        tests the model itself
 ";
@@ -55,6 +58,7 @@ fn answer(args: &[&str]) -> Option<(Vec<u8>, bool)> {
         ["make", "calls", seed] => make::calls_script(seed.parse().ok()?, DEFAULT_CALLS.parse().ok()?),
         ["make", "calls", seed, calls] => make::calls_script(seed.parse().ok()?, calls.parse().ok()?),
         ["make", "ends", seed] => make::ends_script(seed.parse().ok()?),
+        ["make", "records", seed, count] => records::make(seed.parse().ok()?, count.parse().ok()?),
         ["cover"] => cover::cover(&input()).text().into_bytes(),
         ["check"] => {
             let (text, good) = check::check();
