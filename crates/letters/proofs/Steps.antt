@@ -18,8 +18,9 @@ use Rattle.blocks.specs.Chain.{needs, link, chain, after, text}
 use Rattle.blocks.specs.Asked.{Block, Walks}
 use Rattle.blocks.proofs.Steps.{is-block, down, chain-step, within-step, last-in}
 use Rattle.reading.specs.Read.{linkFrom, stepAt}
-use Rattle.reading.specs.declared.Step.the-variants.{Words}
-use Rattle.reading.proofs.Laws.{step-words}
+use Rattle.reading.specs.declared.Step.{Step}
+use Rattle.reading.specs.declared.Step.the-variants.{Words, End}
+use Rattle.reading.proofs.Laws.{step-words, step-end}
 use Rattle.letters.specs.Letter.{onto, word, letter, piece, laid, written, copied}
 use Rattle.letters.specs.Asked.{Lies, Covers, Copies}
 use Rattle.letters.proofs.Rows.{block-chain, needs-enough}
@@ -196,10 +197,10 @@ pub record Stepped (s : Settings) (stretch : List ℕ) (owed b at left k next : 
   pub carries : k ≡ min left (s .b - 1 - at)
   pub follows : next ≡ link s stretch b
 
-pub stepped : (s : Settings) (stretch : List ℕ) (owed b at left first k next : ℕ) → Covers s stretch owed b (at + left) → first ≡ blockAt s 1
-    → stepAt stretch b left at (first - 1) (s .b - 1) ≡ Words k next → Stepped s stretch owed b at left k next
-stepped s stretch owed b at left first k next c ef e =
-    let w = step-words stretch b left at (first - 1) (s .b - 1) k next e in
+pub stepped : (s : Settings) (stretch : List ℕ) (owed b at left first k next : ℕ) (r : Step) → Covers s stretch owed b (at + left) → first ≡ blockAt s 1
+    → r ≡ stepAt stretch b left at (first - 1) (s .b - 1) → r ≡ Words k next → Stepped s stretch owed b at left k next
+stepped s stretch owed b at left first k next r c ef er e =
+    let w = step-words stretch b left at (first - 1) (s .b - 1) k next (sym er ∙ e) in
     let h = w .0 in
     let o : 1 ≤ owed = covers-some s stretch owed b (at + left) c (omega arith) in
     let i = head-in s stretch owed b (c .walks) o in
@@ -210,9 +211,10 @@ stepped s stretch owed b at left first k next c ef e =
       follows = w .2 ∙ ap (λ (f : ℕ). getD stretch (linkFrom (f - 1) (s .b - 1) b) 0) ef ∙ ap (λ (a : ℕ). getD stretch a 0) (link-from s (c .walks .stretch .range) b (i .0));
     }
 
-pub read-none : (out l : List ℕ) → length out ≡ 0 → out ≡ take (length out) l
-read-none [] l h = refl
-read-none (x ∷ out) l h = absurd (omega arith)
+-- the end: out has no word
+pub read-none : (node : List ℕ) (b at before room : ℕ) (out l : List ℕ) (r : Step) → r ≡ stepAt node b (length out) at before room → r ≡ End → out ≡ take (length out) l
+read-none node b at before room [] l r er e = refl
+read-none node b at before room (x ∷ out) l r er e = let z = step-end node b (length (x ∷ out)) at before room (sym er ∙ e) in absurd (omega arith)
 
 -- ---- one word
 pub needs-suc : (s : Settings) → 2 ≤ s .b → (k : ℕ) → needs s (k + 1) ≡ k / (s .b - 1) + 1

@@ -1,9 +1,7 @@
 -- `letters::read_chain` meets its contract. The measure is the number of blocks that are owed. Assumes nothing.
-use mathlib.Core.Path.{sym, _∙_}
 use lib.ListN.{length}
 use borrow.Author.Needs.{needs}
-use Rattle.reading.proofs.Laws.{step-end}
-use Rattle.letters.proofs.Steps.{stepped, first-block, head-block, covers-skip, covers-rest, piece-carried, read-none, read-skip, read-both}
+use Rattle.letters.proofs.Steps.{Stepped, stepped, first-block, head-block, covers-skip, covers-rest, piece-carried, read-none, read-skip, read-both}
 use native.Mathlib.Omega.{arith}
 use Prim.Native.Nat.{ℕ, _-_, _≤_, _<_}
 use borrow.Fn.Kinds.{In}
@@ -54,22 +52,23 @@ module _ (t : ℕ) where
   returns : lts.Need-returns calls Pre own.Post
   returns c =
       let x = c .before .before .before .before .before .before .before in
-      read-none _ _ (step-end (x .args .node .now) (x .args .b) (length (x .args .out .now)) (x .args .at) _ _ (sym (c .before .before .first .ensures) ∙ c .enum-told .given .1))
+      read-none (x .args .node .now) (x .args .b) (x .args .at) _ _ (x .args .out .now) _ (c .before .before .first .result) (c .before .before .first .ensures) (c .enum-told .given .1)
+
+  -- where the reader took a step: what it tells
+  step-of : (y : lts.After-k calls Pre own.Post)
+      → let x = y .before .before .before .before .before .before .before .args in
+      Stepped (x .s) (x .node .now) (x .owed) (x .b) (x .at) (length (x .out .now)) (y .k .given .0 .0) (y .k .given .0 .1 .0)
+  step-of y =
+      let x = y .before .before .before .before .before .before .before in
+      stepped (x .args .s) (x .args .node .now) (x .args .owed) (x .args .b) (x .args .at) (length (x .args .out .now)) _ _ _ (y .before .before .first .result) (x .pre .1) (y .before .before .before .block-at .ensures .is) (y .before .before .first .ensures) (y .k .given .1)
 
   sub-read-chain : lts.Need-sub-read-chain calls Pre own.Post
   sub-read-chain c =
-      let y = c .before .before in
-      let x = y .before .before .before .before .before .before .before in
-      let p = x .pre .1 in
-      let q = stepped (x .args .s) (x .args .node .now) (x .args .owed) (x .args .b) (x .args .at) (length (x .args .out .now)) _ _ _ p (y .before .before .before .block-at .ensures .is) (sym (y .before .before .first .ensures) ∙ y .k .given .1) in
-      q .owes
+      step-of (c .before .before) .owes
 
   sub-read-chain-2 : lts.Need-sub-read-chain-2 calls Pre own.Post
   sub-read-chain-2 c =
-      let y = c .before .before in
-      let x = y .before .before .before .before .before .before .before in
-      let p = x .pre .1 in
-      let q = stepped (x .args .s) (x .args .node .now) (x .args .owed) (x .args .b) (x .args .at) (length (x .args .out .now)) _ _ _ p (y .before .before .before .block-at .ensures .is) (sym (y .before .before .first .ensures) ∙ y .k .given .1) in
+      let q = step-of (c .before .before) in
       omega (arith, q .some, q .carries, c .if1 .taken)
 
   read-chain-requires : lts.Need-read-chain-requires calls Pre own.Post
@@ -77,7 +76,7 @@ module _ (t : ℕ) where
       let y = c .before .before .before in
       let x = y .before .before .before .before .before .before .before in
       let p = x .pre .1 in
-      let q = stepped (x .args .s) (x .args .node .now) (x .args .owed) (x .args .b) (x .args .at) (length (x .args .out .now)) _ _ _ p (y .before .before .before .block-at .ensures .is) (sym (y .before .before .first .ensures) ∙ y .k .given .1) in
+      let q = step-of y in
       let h : x .args .s .b - 1 ≤ x .args .at = omega (arith, q .some, q .carries, c .before .if1 .taken) in
       (omega (arith, q .owes), covers-skip (x .args .s) (x .args .node .now) (x .args .owed) (x .args .b) (p .walks) (q .owes) (x .args .at) (length (x .args .out .now)) _ (p .room) (q .follows) h)
 
@@ -86,39 +85,26 @@ module _ (t : ℕ) where
       let y = c .before .before .before in
       let x = y .before .before .before .before .before .before .before in
       let p = x .pre .1 in
-      let q = stepped (x .args .s) (x .args .node .now) (x .args .owed) (x .args .b) (x .args .at) (length (x .args .out .now)) _ _ _ p (y .before .before .before .block-at .ensures .is) (sym (y .before .before .first .ensures) ∙ y .k .given .1) in
+      let q = step-of y in
       record { block = head-block (x .args .s) (x .args .node .now) (x .args .owed) (x .args .b) (p .walks) (q .owes); inside = omega (arith, q .carries, c .before .if1 .left) }
 
   sub-read-chain-3 : lts.Need-sub-read-chain-3 calls Pre own.Post
   sub-read-chain-3 c =
-      let y = c .before .before .before .before .before .before in
-      let x = y .before .before .before .before .before .before .before in
-      let p = x .pre .1 in
-      let q = stepped (x .args .s) (x .args .node .now) (x .args .owed) (x .args .b) (x .args .at) (length (x .args .out .now)) _ _ _ p (y .before .before .before .block-at .ensures .is) (sym (y .before .before .first .ensures) ∙ y .k .given .1) in
-      q .owes
+      step-of (c .before .before .before .before .before .before) .owes
 
   mul-read-chain : lts.Need-mul-read-chain calls Pre own.Post
   mul-read-chain c =
-      let y = c .before .before .before .before .before .before in
-      let x = y .before .before .before .before .before .before .before in
-      let p = x .pre .1 in
-      let q = stepped (x .args .s) (x .args .node .now) (x .args .owed) (x .args .b) (x .args .at) (length (x .args .out .now)) _ _ _ p (y .before .before .before .block-at .ensures .is) (sym (y .before .before .first .ensures) ∙ y .k .given .1) in
+      let q = step-of (c .before .before .before .before .before .before) in
       omega (arith, q .carries)
 
   sub-read-chain-4 : lts.Need-sub-read-chain-4 calls Pre own.Post
   sub-read-chain-4 c =
-      let y = c .before .before .before .before .before .before in
-      let x = y .before .before .before .before .before .before .before in
-      let p = x .pre .1 in
-      let q = stepped (x .args .s) (x .args .node .now) (x .args .owed) (x .args .b) (x .args .at) (length (x .args .out .now)) _ _ _ p (y .before .before .before .block-at .ensures .is) (sym (y .before .before .first .ensures) ∙ y .k .given .1) in
+      let q = step-of (c .before .before .before .before .before .before) in
       omega (arith, q .carries)
 
   part-read-chain-start : lts.Need-part-read-chain-start calls Pre own.Post
   part-read-chain-start c =
-      let y = c .before .before .before .before .before .before in
-      let x = y .before .before .before .before .before .before .before in
-      let p = x .pre .1 in
-      let q = stepped (x .args .s) (x .args .node .now) (x .args .owed) (x .args .b) (x .args .at) (length (x .args .out .now)) _ _ _ p (y .before .before .before .block-at .ensures .is) (sym (y .before .before .first .ensures) ∙ y .k .given .1) in
+      let q = step-of (c .before .before .before .before .before .before) in
       omega (arith, q .carries)
 
   part-read-chain-end : lts.Need-part-read-chain-end calls Pre own.Post
@@ -129,7 +115,7 @@ module _ (t : ℕ) where
       let y = c .before .before .before .before .before .before .before in
       let x = y .before .before .before .before .before .before .before in
       let p = x .pre .1 in
-      let q = stepped (x .args .s) (x .args .node .now) (x .args .owed) (x .args .b) (x .args .at) (length (x .args .out .now)) _ _ _ p (y .before .before .before .block-at .ensures .is) (sym (y .before .before .first .ensures) ∙ y .k .given .1) in
+      let q = step-of y in
       let h : x .args .at < x .args .s .b - 1 = omega (arith, q .carries, c .before .before .before .before .before .if1 .left) in
       let k = piece-carried (x .args .s) (x .args .node .now) (x .args .owed) (x .args .b) (p .walks) (q .owes) (x .args .at) (length (x .args .out .now)) _ h (q .carries) in
       (omega (arith, q .owes), covers-rest (x .args .s) (x .args .node .now) (x .args .owed) (x .args .b) (p .walks) (q .owes) (x .args .at) (length (x .args .out .now)) _ (p .room) (q .follows) _ _ h k (c .before .before .before .read-block .kept .1 .1 .1 .1 .0))
@@ -142,7 +128,7 @@ module _ (t : ℕ) where
       let y = c .before .before .before .before .before .before in
       let x = y .before .before .before .before .before .before .before in
       let p = x .pre .1 in
-      let q = stepped (x .args .s) (x .args .node .now) (x .args .owed) (x .args .b) (x .args .at) (length (x .args .out .now)) _ _ _ p (y .before .before .before .block-at .ensures .is) (sym (y .before .before .first .ensures) ∙ y .k .given .1) in
+      let q = step-of y in
       let h : x .args .s .b - 1 ≤ x .args .at = omega (arith, q .some, q .carries, c .before .before .before .before .if1 .taken) in
       read-skip (x .args .s) (x .args .node .now) (x .args .owed) (x .args .b) (p .walks) (q .owes) (x .args .at) _ (length (x .args .out .now)) _ (q .follows) h (c .before .before .read-chain .ensures)
 
@@ -154,7 +140,7 @@ module _ (t : ℕ) where
       let y = c .before .before .before .before .before .before .before .before .before .before in
       let x = y .before .before .before .before .before .before .before in
       let p = x .pre .1 in
-      let q = stepped (x .args .s) (x .args .node .now) (x .args .owed) (x .args .b) (x .args .at) (length (x .args .out .now)) _ _ _ p (y .before .before .before .block-at .ensures .is) (sym (y .before .before .first .ensures) ∙ y .k .given .1) in
+      let q = step-of y in
       let h : x .args .at < x .args .s .b - 1 = omega (arith, q .carries, c .before .before .before .before .before .before .before .before .if1 .left) in
       let k = piece-carried (x .args .s) (x .args .node .now) (x .args .owed) (x .args .b) (p .walks) (q .owes) (x .args .at) (length (x .args .out .now)) _ h (q .carries) in
       read-both (x .args .s) (x .args .node .now) (x .args .owed) (x .args .b) (p .walks) (q .owes) (x .args .at) _ _ (x .args .out .now) _ _ (q .follows) h k (c .before .before .before .before .before .before .read-block .ensures .1) (c .before .before .read-chain2 .ensures)
