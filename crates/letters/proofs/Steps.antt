@@ -10,12 +10,17 @@ use borrow.Rule.Slice.PartMut.{putMid, postOf, post-is}
 use Rattle.words.specs.Words.{part, splice}
 use Rattle.words.proofs.Parts.{back, length-part, take-least, drop-take, take-join, drop-front}
 use Rattle.settings.specs.declared.Settings.{Settings}
-use Rattle.layout.specs.Places.{blockAt, linkAt, nodeSize, nodeAt, node}
+use Rattle.settings.specs.Range.{InRange}
+use Rattle.layout.specs.Places.{blocksAt, blockAt, linkAt, nodeSize, nodeAt, node}
 use Rattle.layout.specs.Asked.{Stretch}
 use Rattle.layout.proofs.Fits.{block-fits, node-small}
 use Rattle.blocks.specs.Chain.{needs, link, chain, after, text}
 use Rattle.blocks.specs.Asked.{Block, Walks}
 use Rattle.blocks.proofs.Steps.{is-block, down, chain-step, within-step, last-in}
+use Rattle.reading.specs.Read.{linkFrom, stepAt}
+use Rattle.reading.specs.declared.Step.{Step}
+use Rattle.reading.specs.declared.Step.the-variants.{Words, End}
+use Rattle.reading.proofs.Laws.{step-words, step-end}
 use Rattle.letters.specs.Letter.{onto, word, letter, piece, laid, written, copied}
 use Rattle.letters.specs.Asked.{Lies, Covers, Copies}
 use Rattle.letters.proofs.Rows.{block-chain, needs-enough}
@@ -123,6 +128,10 @@ module _ (s : Settings) (node : List ℕ) (owed b : ℕ) (ws : Walks s node owed
   unfolding piece
   piece-most at len = rw length-take (omega arith)
 
+  -- as many words as the step tells
+  pub piece-carried : (at len k : ℕ) → at < s .b - 1 → k ≡ min len (s .b - 1 - at) → k ≡ length (piece s node b at len)
+  piece-carried at len k h e = piece-long s node (ws .stretch) b (head-in .0) (head-in .1) at h len k (blockAt s b + at) e refl
+
   -- and what the two reads leave in out
   pub read-both : (at k next : ℕ) (out mid r : List ℕ) → next ≡ link s node b → at < s .b - 1 → k ≡ length (piece s node b at (length out)) → mid ≡ onto (piece s node b at (length out)) out
       → r ≡ take (length (part mid k (length out))) (drop 0 (text s node (chain s node (owed - 1) next)))
@@ -166,9 +175,46 @@ pub covers-some : (s : Settings) (node : List ℕ) (owed b n : ℕ) → Covers s
 covers-some s node zero b n c h = let r = c .room in absurd (omega (arith, zero-mul (s .b - 1)))
 covers-some s node (suc owed) b n c h = omega arith
 
-pub read-none : (out l : List ℕ) → length out ≡ 0 → out ≡ take (length out) l
-read-none [] l h = refl
-read-none (x ∷ out) l h = absurd (omega arith)
+-- ---- one step of the reader
+-- a block's link, counted from the word before the first block
+link-from : (s : Settings) → InRange s → (b : ℕ) → 1 ≤ b → linkFrom (blockAt s 1 - 1) (s .b - 1) b ≡ linkAt s b
+unfolding blockAt blocksAt
+link-from s r b low =
+    let w = r .b .low in
+    let e : s .b - 1 + 1 ≡ s .b = omega arith in
+    omega (arith, suc-mul (b - 1) (s .b), ap (λ (k : ℕ). k * s .b) (down b low), ap (λ (k : ℕ). b * k) e)
+
+pub first-block : (s : Settings) → InRange s → (first : ℕ) → first ≡ blockAt s 1 → (1 ≤ first) × (first ≤ 85274)
+unfolding blockAt blocksAt
+first-block s r first e =
+    let m = r .m .low in
+    (omega arith, omega (arith, block-fits s 1 (omega arith) m, node-small s r))
+
+-- what it tells in a chain that has the words: a block is owed, and the numbers are those of the block and of its link
+pub record Stepped (s : Settings) (stretch : List ℕ) (owed b at left k next : ℕ) : Type 0 where
+  pub some : 1 ≤ left
+  pub owes : 1 ≤ owed
+  pub carries : k ≡ min left (s .b - 1 - at)
+  pub follows : next ≡ link s stretch b
+
+pub stepped : (s : Settings) (stretch : List ℕ) (owed b at left first k next : ℕ) (r : Step) → Covers s stretch owed b (at + left) → first ≡ blockAt s 1
+    → r ≡ stepAt stretch b left at (first - 1) (s .b - 1) → r ≡ Words k next → Stepped s stretch owed b at left k next
+stepped s stretch owed b at left first k next r c ef er e =
+    let w = step-words stretch b left at (first - 1) (s .b - 1) k next (sym er ∙ e) in
+    let h = w .0 in
+    let o : 1 ≤ owed = covers-some s stretch owed b (at + left) c (omega arith) in
+    let i = head-in s stretch owed b (c .walks) o in
+    record {
+      some = h;
+      owes = o;
+      carries = w .1;
+      follows = w .2 ∙ ap (λ (f : ℕ). getD stretch (linkFrom (f - 1) (s .b - 1) b) 0) ef ∙ ap (λ (a : ℕ). getD stretch a 0) (link-from s (c .walks .stretch .range) b (i .0));
+    }
+
+-- the end: out has no word
+pub read-none : (node : List ℕ) (b at before room : ℕ) (out l : List ℕ) (r : Step) → r ≡ stepAt node b (length out) at before room → r ≡ End → out ≡ take (length out) l
+read-none node b at before room [] l r er e = refl
+read-none node b at before room (x ∷ out) l r er e = let z = step-end node b (length (x ∷ out)) at before room (sym er ∙ e) in absurd (omega arith)
 
 -- ---- one word
 pub needs-suc : (s : Settings) → 2 ≤ s .b → (k : ℕ) → needs s (k + 1) ≡ k / (s .b - 1) + 1

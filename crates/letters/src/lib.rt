@@ -1,4 +1,5 @@
 // Letters in their chains of blocks: read, written and copied.
+use reading::Step;
 use settings::Settings;
 ghost use mathlib.Core.Path.{_≡_};
 ghost use Prim.Native.Nat.{_+_, _-_, min};
@@ -57,15 +58,15 @@ pub fn read_chain(node: &[u32], s: Settings, b: u32, owed: usize, at: usize, out
     ensures { λ _. ⌜ now (out .exit) ≡ take (length (now (out .entry))) (drop at (text s (now (node .entry)) (chain s (now (node .entry)) owed b))) ⌝ }
 {
     let end = out.len();
-    if end == 0 {
-        return;
-    }
-    let next = blocks::link_of(node, s, b);
     let room = s.b - 1;
-    if room <= at {
+    let before = layout::block_at(s, 1) - 1;
+    let Step::Words(k, next) = reading::first(node, b, end, at, before as u32, room as u32) else {
+        return;
+    };
+    if k == 0 {
         read_chain(node, s, next, owed - 1, at - room, out);
     } else {
-        let k = read_block(node, s, b, at, out);
+        read_block(node, s, b, at, out);
         read_chain(node, s, next, owed - 1, 0, &mut out[k..end]);
     }
 }
