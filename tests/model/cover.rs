@@ -99,26 +99,10 @@ impl Cover {
             }
             (_, Ok(set)) => set,
         };
-        if let Step::Turn = step {
-            let node = before[TURN] as usize;
-            let [from, to] = [before, after].map(|memory| position(memory, node)[0]);
-            *self.stages.entry((from, to)).or_default() += 1;
-            self.brought[node] += usize::from(done.answer.values[1] > 0);
-            self.stopped[node] += usize::from(number != 0);
-        }
-        if let (Step::Send { .. } | Step::Receive { .. }, 0) = (step, number) {
-            for (k, (least, greatest)) in RANGES.into_iter().enumerate() {
-                self.least[k] += usize::from(before[k] == least);
-                self.greatest[k] += usize::from(before[k] == greatest);
-            }
-        }
-        if let (Step::Send { length, .. }, 0) = (step, number) {
-            let kind = match length {
-                0 => "0 words",
-                1_019 => "1,019 words",
-                _ => "other",
-            };
-            *self.bodies.entry(kind).or_default() += 1;
+        match (step, number) {
+            (Step::Turn, _) => self.note_turn(before, after, done),
+            (Step::Send { .. } | Step::Receive { .. }, 0) => self.note_letter(step, before),
+            _ => {}
         }
         if let Step::Send { .. } | Step::Turn = step {
             *self.gaps_closed.entry(name).or_default() += flags_fallen(set, before, after);
@@ -130,6 +114,31 @@ impl Cover {
         let counted = [5, 6, 7, 8, 10].contains(&number);
         if counted && set.count_places().into_iter().all(|place| before[place] == after[place]) {
             *self.counts_ended.entry((name, number)).or_default() += 1;
+        }
+    }
+
+    /// Notes a turn: where it began and ended, and what it brought.
+    fn note_turn(&mut self, before: &[u32], after: &[u32], done: &Done) {
+        let node = before[TURN] as usize;
+        let [from, to] = [before, after].map(|memory| position(memory, node)[0]);
+        *self.stages.entry((from, to)).or_default() += 1;
+        self.brought[node] += usize::from(done.answer.values[1] > 0);
+        self.stopped[node] += usize::from(done.answer.number != 0);
+    }
+
+    /// Notes a letter sent or received: its body, and settings at their ends.
+    fn note_letter(&mut self, step: &Step, before: &[u32]) {
+        for (k, (least, greatest)) in RANGES.into_iter().enumerate() {
+            self.least[k] += usize::from(before[k] == least);
+            self.greatest[k] += usize::from(before[k] == greatest);
+        }
+        if let Step::Send { length, .. } = step {
+            let kind = match length {
+                0 => "0 words",
+                1_019 => "1,019 words",
+                _ => "other",
+            };
+            *self.bodies.entry(kind).or_default() += 1;
         }
     }
 
