@@ -4,13 +4,12 @@
 use mathlib.Core.Path.{_≡_, refl, sym, ap, ap₂, _∙_, subst}
 use mathlib.Core.Bool.{Bool, true, false, cond, _&&_, false≢true}
 use mathlib.Core.List.{List, [], _∷_, _++_, map, append-nil, append-assoc}
-use Prim.Native.Nat.{ℕ, zero, suc, _+_, _-_, _≤_, _<_}
+use Prim.Native.Nat.{ℕ, _+_, _-_, _≤_, _<_}
 use native.Mathlib.Omega.{arith}
 use lib.Dec.{eqb}
 use lib.ListN.{length, getD, take, drop}
 use lib.Seq.{take-append-seam}
 use borrow.Author.Tests.{eqb-true, eq-eqb}
-use Rattle.words.specs.Count.{occurs, sum, downFrom}
 use Rattle.words.proofs.Count.{down-in}
 use Rattle.words.proofs.Lists.{split, and-true}
 use Rattle.settings.specs.declared.Settings.{Settings}
@@ -26,12 +25,11 @@ use Rattle.sound.specs.Queues.{taskOf}
 use Rattle.sound.specs.Letters.{rightHeader, fromTo, rightPlace}
 use Rattle.sound.specs.Sound.{sound}
 use Rattle.sound.proofs.Gives.{gives-table}
-use Rattle.setup.specs.declared.SetUp.{SetUp}
 use Rattle.setup.specs.declared.SetUp.the-variants.{Done as SetUp-done, SettingOutOfRange, WrongTable, OtherSize}
-use Rattle.setup.specs.Outcome.{Outcome as SetUp-outcome, setUp}
+use Rattle.setup.specs.Outcome.{setUp}
 use Rattle.setup.specs.Fresh.{freshMemory}
 use Rattle.settings.proofs.Laws.{range-true}
-use Rattle.posting.specs.Letter.{letterOf, headerOf}
+use Rattle.posting.specs.Letter.{letterOf}
 use Rattle.posting.specs.declared.Sent.{Sent}
 use Rattle.posting.specs.declared.Sent.the-variants.{Done as Sent-done, NotSound as Sent-not-sound, SourceNotBound as Sent-source, DestinationNotBound as Sent-destination, BodyTooLong, TooFewBlocks, QueueFull}
 use Rattle.send.specs.Outcome.{send}
@@ -40,11 +38,10 @@ use Rattle.receive.specs.declared.Received.the-variants.{Done as Received-done,
 use Rattle.receive.specs.Outcome.{Outcome as Received-outcome, receive}
 use Rattle.receive.proofs.Sounds.{refused-first}
 use Rattle.turn.specs.Outcome.{turn}
-use Rattle.machine.specs.Machine.{Letter, first, Live, wordsOf, Machine, All, many}
+use Rattle.machine.specs.Machine.{Letter, first, Live, wordsOf, All, many}
 use Rattle.machine.specs.Spelled.{machineOf}
 use Rattle.machine.specs.Fresh.{freshMachine}
 use Rattle.machine.specs.Represents.{Right, RepresentsAt, Represents}
-use Rattle.machine.specs.Same.{Fixed, Unchanged}
 use Rattle.machine.proofs.Letters.{all-parts, alive}
 use Rattle.machine.proofs.Counts.{sum-last}
 use Rattle.machine.proofs.Sound.{sound-represents}

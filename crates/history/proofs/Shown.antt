@@ -1,6 +1,6 @@
 -- THE LIST SHOWS THE LETTERS ON THE WAY: of the records that it writes those of a pair, each read at the node and block it names. Assumes nothing.
 use mathlib.Core.Path.{_≡_, refl, sym, ap, ap₂, _∙_, subst}
-use mathlib.Core.Bool.{Bool, true, false, cond, _&&_, false≢true}
+use mathlib.Core.Bool.{Bool, true, false, cond, _&&_}
 use mathlib.Core.List.{List, [], _∷_, _++_, map, append-nil}
 use Prim.Native.Nat.{ℕ, zero, suc, _+_, _-_, _*_, _≤_, _<_}
 use native.Mathlib.Omega.{arith}
@@ -24,11 +24,10 @@ use Rattle.sound.proofs.Gives.{gives-table, gives-range}
 use Rattle.sound.proofs.Held.{gives-at, right-parts}
 use Rattle.layout.proofs.NodeRows.{by-send, by-task}
 use Rattle.listing.specs.declared.Shown.{Shown}
-use Rattle.listing.specs.declared.Listed.{Listed}
 use Rattle.listing.specs.declared.Listed.the-variants.{Done, OutTooShort}
 use Rattle.listing.specs.List.{handedOver, shown, fromTask, fromSend, waiting, fromNodes, ofTask, ofTasks, listed, laidOut}
 use Rattle.listing.specs.Outcome.{list}
-use Rattle.machine.specs.Machine.{Letter, first, wordsOf, Machine}
+use Rattle.machine.specs.Machine.{first, wordsOf}
 use Rattle.machine.specs.Spelled.{letterFrom, nodeFrom, machineOf}
 use Rattle.machine.proofs.Spelled.{first-from}
 use Rattle.machine.proofs.Places.{shown-send, shown-task, begun-low, begun-task}

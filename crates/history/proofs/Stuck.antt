@@ -1,8 +1,8 @@
 -- In a sound memory no call is refused by 1, and the list has room in an out that is long enough. Assumes nothing.
-use mathlib.Core.Path.{_≡_, refl, sym, ap, _∙_}
-use mathlib.Core.Bool.{Bool, true, false, cond, _||_}
+use mathlib.Core.Path.{_≡_, refl, ap}
+use mathlib.Core.Bool.{true, _||_}
 use mathlib.Core.List.{List}
-use Prim.Native.Nat.{ℕ, zero, suc, _*_, _≤_}
+use Prim.Native.Nat.{ℕ, _*_}
 use native.Mathlib.Omega.{arith}
 use lib.Dec.{eqb, leb}
 use lib.ListN.{length, replicate, length-replicate}
@@ -10,7 +10,7 @@ use borrow.Author.Tests.{le-leb}
 use Rattle.words.proofs.Lists.{split}
 use Rattle.blocks.specs.Chain.{needs}
 use Rattle.blocks.specs.Moves.{enough}
-use Rattle.tasks.specs.Table.{nodeOf, queueOf, isBound}
+use Rattle.tasks.specs.Table.{isBound}
 use Rattle.taking.specs.declared.Found.{Found}
 use Rattle.taking.specs.declared.Found.the-variants.{At, Nothing}
 use Rattle.sound.specs.Reading.{settingsIn, tableIn, turnIn}
@@ -36,12 +36,10 @@ use Rattle.stages_keep.specs.Steps.{gone}
 use Rattle.turn.specs.declared.Turned.{Turned}
 use Rattle.turn.specs.declared.Turned.the-variants.{Finished, Stopped as Turned-stopped, NotSound as Turned-not-sound}
 use Rattle.turn.specs.Outcome.{answered, taken, turn}
-use Rattle.listing.specs.declared.Shown.{Shown}
 use Rattle.listing.specs.declared.Listed.{Listed}
 use Rattle.listing.specs.declared.Listed.the-variants.{Done as Listed-done, NotSound as Listed-not-sound, OutTooShort}
 use Rattle.listing.specs.List.{listed}
 use Rattle.listing.specs.Outcome.{list}
-use Rattle.history.specs.Runs.{Past}
 use Rattle.history.specs.Demand.{NeverStuck, Room}
 
 -- ---- the answers that say 1

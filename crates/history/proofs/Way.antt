@@ -6,8 +6,8 @@ use Prim.Native.Nat.{ℕ, _+_, _≤_, _<_}
 use native.Mathlib.Omega.{arith}
 use lib.Dec.{eqb}
 use lib.ListN.{length, getD, drop}
-use borrow.Author.Tests.{eqb-true, eq-eqb, ne-eqb}
-use Rattle.words.proofs.Lists.{split, same?, and-true, and-false}
+use borrow.Author.Tests.{eqb-true}
+use Rattle.words.proofs.Lists.{split, same?, and-true}
 use Rattle.tasks.specs.Table.{nodeOf, queueOf, isBound, rightTable}
 use Rattle.tasks.proofs.Laws.{seat-below}
 use Rattle.machine.specs.Machine.{Letter, wordsOf, Machine, All}

@@ -1,7 +1,7 @@
 -- Runs: any list of calls on one memory, and the letters accepted and received since its last successful set-up. Demand 3.
 use mathlib.Core.List.{List, [], _∷_, _++_}
 use Prim.Native.Nat.{ℕ}
-use lib.ListN.{length, take}
+use lib.ListN.{take}
 use Rattle.settings.specs.Made.{settingsOf}
 use Rattle.sound.specs.Reading.{tableIn}
 use Rattle.setup.specs.declared.SetUp.{SetUp}

@@ -8,7 +8,7 @@ use lib.ListN.{length, getD, take, drop}
 use lib.Seq.{length-take-le}
 use Rattle.words.proofs.Lists.{put, put-same, put-put}
 use Rattle.settings.specs.declared.Settings.{Settings}
-use Rattle.layout.specs.Places.{nodeSize, node, withNode, taskAt, firstFreeAt, gapWord}
+use Rattle.layout.specs.Places.{nodeSize, node, withNode, taskAt, firstFreeAt}
 use Rattle.blocks.specs.Chain.{needs}
 use Rattle.blocks.specs.Moves.{taken}
 use Rattle.blocks.proofs.Moves.{length-taken}

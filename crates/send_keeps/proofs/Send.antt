@@ -5,21 +5,17 @@
 use mathlib.Core.Path.{_≡_, refl, sym, ap, _∙_, subst}
 use mathlib.Core.Bool.{true, false}
 use mathlib.Core.List.{List, [], _∷_, _++_}
-use Prim.Native.Nat.{ℕ, zero, suc, _+_, _-_, _*_, _≤_, _<_}
-use native.Mathlib.Nat.{zero-mul}
+use Prim.Native.Nat.{ℕ, _+_, _-_, _≤_, _<_}
 use native.Mathlib.Omega.{arith}
-use lib.Dec.{eqb}
 use lib.ListN.{length, getD, drop}
-use borrow.Author.Tests.{leb-true, ne-eqb}
+use borrow.Author.Tests.{leb-true}
 use Rattle.words.proofs.Lists.{put, put-same, put-other, split, same?}
 use Rattle.settings.specs.declared.Settings.{Settings}
-use Rattle.settings.specs.Range.{InRange}
 use Rattle.layout.specs.Places.{nodeSize, node, withNode, sendAt, taskAt}
 use Rattle.tasks.specs.Table.{nodeOf, queueOf, isBound}
 use Rattle.tasks.proofs.Laws.{seat-within}
 use Rattle.blocks.specs.Chain.{needs, free}
 use Rattle.blocks.specs.Moves.{enough}
-use Rattle.letters.proofs.Rows.{needs-enough}
 use Rattle.queues.specs.Queue.{sendKind}
 use Rattle.queues.specs.Moves.{appended, counted}
 use Rattle.gaps.specs.Close.{taskAppended}
@@ -35,7 +31,7 @@ use Rattle.posting.specs.declared.Sent.{Sent}
 use Rattle.posting.specs.declared.Sent.the-variants.{Done, NotSound, SourceNotBound, DestinationNotBound, BodyTooLong, TooFewBlocks, QueueFull}
 use Rattle.send.specs.Outcome.{Outcome, refusedBy, fits, goalOf, postedIn, delivered, send}
 use Rattle.send.proofs.Outcomes.{fits-both, goal-same, goal-other}
-use Rattle.machine.specs.Machine.{Letter, first, Node, Machine}
+use Rattle.machine.specs.Machine.{Letter, Node, Machine}
 use Rattle.machine.specs.Spelled.{nodeFrom, machineOf}
 use Rattle.machine.specs.Represents.{Right, RepresentsAt}
 use Rattle.machine.proofs.Sound.{sound-represents}

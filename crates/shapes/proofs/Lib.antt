@@ -1,3 +1,4 @@
 pub mod Bound
 pub mod Steps
+pub mod Clear
 pub mod Rule

@@ -6,23 +6,19 @@ use Prim.Native.Nat.{ℕ, suc, _+_, _-_, _≤_, _<_}
 use native.Mathlib.Omega.{arith}
 use lib.Dec.{eqb, leb, ltb, leb·zero}
 use lib.ListN.{length, getD}
-use borrow.Author.Tests.{eq-eqb, ne-eqb, le-leb, lt-leb, lt-ltb, le-ltb}
-use Rattle.words.specs.Words.{every, all}
-use Rattle.words.proofs.Lists.{same?, and-false, every-all, every-not}
+use borrow.Author.Tests.{eq-eqb, ne-eqb, le-leb, lt-leb, le-ltb}
+use Rattle.words.specs.Words.{all}
+use Rattle.words.proofs.Lists.{same?, and-false}
 use Rattle.layout.specs.Places.{gapWord}
 use Rattle.queues.specs.declared.Kind.{Kind}
 use Rattle.queues.specs.Queue.{start, items, itemAt, run, contents}
 use Rattle.queues.specs.Items.{gapFlag}
 use Rattle.queues.proofs.Ring.{length-run}
 use Rattle.sound.specs.Queues.{inShape}
-use Rattle.sound.proofs.Tests.{no-second, every-more, all-none, all-step, all-same}
+use Rattle.sound.proofs.Tests.{no-second, all-none, all-step, all-same}
 use Rattle.shapes.specs.Shape.{itemsWithin, rightPost, rightSeat}
 
 module _ (k : Kind) (l : List ℕ) (q : ℕ) where
-  -- slot i is an item's, or holds 0
-  abbrev pub clear : ℕ → Bool
-  clear i = ltb i (items k l q) || eqb (itemAt k l q i) 0
-
   pub shape-start : k .slots ≤ start k l q → false ≡ inShape k l q
   unfolding inShape
   shape-start h = rw (le-ltb (start k l q) (k .slots) h)
@@ -30,28 +26,6 @@ module _ (k : Kind) (l : List ℕ) (q : ℕ) where
   pub shape-items : k .slots < items k l q → false ≡ inShape k l q
   unfolding inShape
   shape-items h = no-second (ltb (start k l q) (k .slots)) _ (rw (lt-leb (items k l q) (k .slots) h))
-
-  -- the slots before the first that is to be 0
-  pub clear-items : every (items k l q) clear ≡ true
-  clear-items = every-all clear (items k l q) (λ i h. rw (lt-ltb i (items k l q) h))
-
-  pub clear-more : (i : ℕ) → every i clear ≡ true → itemAt k l q i ≡ 0 → every (i + 1) clear ≡ true
-  clear-more i e z = every-more clear i e (rw z (or-true (ltb i (items k l q))))
-    where
-      or-true : (b : Bool) → b || true ≡ true
-      or-true true = refl
-      or-true false = refl
-
-  pub shape-slot : (i : ℕ) → items k l q ≤ i → i < k .slots → (itemAt k l q i ≡ 0 → ⊥) → false ≡ inShape k l q
-  unfolding inShape
-  shape-slot i h g n =
-      no-second (ltb (start k l q) (k .slots)) _
-      (sym (no-second (leb (items k l q) (k .slots)) _
-      (every-not clear (k .slots) i g (rw (le-ltb i (items k l q) h, ne-eqb (itemAt k l q i) 0 n)))))
-
-  pub shape-yes : start k l q < k .slots → items k l q ≤ k .slots → every (k .slots) clear ≡ true → true ≡ inShape k l q
-  unfolding inShape
-  shape-yes h g e = rw (lt-ltb (start k l q) (k .slots) h, le-leb (items k l q) (k .slots) g, e)
 
   -- ---- the items from place i on, of n
   pub run-step : (i n : ℕ) → i < n → run k l q i (n - i) ≡ itemAt k l q i ∷ run k l q (i + 1) (n - (i + 1))

@@ -1,17 +1,25 @@
 -- The third rule of a sound memory, over one node's stretch and the row of seats.
 use mathlib.Core.Bool.{Bool, _&&_, _||_, not}
 use mathlib.Core.List.{List}
-use Prim.Native.Nat.{ℕ, _+_}
-use lib.Dec.{eqb, leb}
+use Prim.Native.Nat.{ℕ, _+_, _-_}
+use lib.Dec.{eqb, leb, ltb}
 use lib.ListN.{length, getD}
 use Rattle.words.specs.Words.{every, all}
 use Rattle.settings.specs.declared.Settings.{Settings}
 use Rattle.layout.specs.Places.{nodes, taskQueues, sendAt, ackAt, taskAt, gapWord}
 use Rattle.queues.specs.declared.Kind.{Kind}
-use Rattle.queues.specs.Queue.{sendKind, ackKind, taskKind, contents}
+use Rattle.queues.specs.Queue.{sendKind, ackKind, taskKind, items, itemAt, contents}
 use Rattle.queues.specs.Items.{gapFlag}
 use Rattle.sound.specs.Queues.{inShape}
 use Rattle.shapes.specs.Seats.{seatAt}
+
+-- the words from a on, before e, are 0
+unfoldable pub zeroes : List ℕ → ℕ → ℕ → Bool
+zeroes stretch a e = every (e - a) (λ i. eqb (getD stretch (a + i) 0) 0)
+
+-- 'slots outside the items are 0'
+unfoldable pub clearOutside : Kind → List ℕ → ℕ → Bool
+clearOutside k stretch q = every (k .slots) (λ i. ltb i (items k stretch q) || eqb (itemAt k stretch q i) 0)
 
 -- the items lie between the two, both included
 unfoldable pub itemsWithin : ℕ → ℕ → List ℕ → Bool

@@ -8,10 +8,12 @@ ghost use Prim.Native.Nat.{_<_, _≤_};
 ghost use lib.ListN.{length, replicate};
 ghost use Rattle.layout.specs.Asked.{Stretch};
 ghost use Rattle.tasks.specs.Table.{rightTable};
-ghost use Rattle.queues.specs.Queue.{Queue, Placed, contents};
+ghost use Rattle.queues.specs.Queue.{Queue, Placed, start, items, contents};
 ghost use Rattle.sound.specs.Queues.{inShape};
 ghost use Rattle.shapes.specs.Seats.{putOn, Seats};
 ghost use Rattle.shapes.specs.Shape.{
+  zeroes,
+  clearOutside,
   itemsWithin,
   rightPost,
   rightSeat,
@@ -48,6 +50,39 @@ pub fn seat_tasks(seats: &mut [u32], table: &[u32])
     }
 }
 
+// Whether the words from a on, before e, are 0.
+fn are_zero(node: &[u32], a: usize, e: usize) -> bool
+    requires { ⌜ (a ≤ e) × (e ≤ length (now node)) ⌝ }
+    ensures { λ r. ⌜ r ≡ zeroes (now (node .entry)) a e ⌝ }
+{
+    let mut i = a;
+    while i < e {
+        if node[i] != 0 {
+            return false;
+        }
+        i += 1;
+    }
+    true
+}
+
+// Whether the slots outside the items are 0, as they stand: behind the last item and before the first, or between them where the items run round.
+fn is_clear(node: &[u32], k: Kind, q: usize, first: usize, count: usize) -> bool
+    requires { ⌜ Placed k (now node) q ⌝ }
+    requires { ⌜ (first ≡ start k (now node) q) × (first < k .slots) ⌝ }
+    requires { ⌜ (count ≡ items k (now node) q) × (count ≤ k .slots) ⌝ }
+    ensures { λ r. ⌜ r ≡ clearOutside k (now (node .entry)) q ⌝ }
+{
+    let base = q + k.head;
+    let end = first + count;
+    if k.slots < end {
+        return are_zero(node, base + (end - k.slots), base + first);
+    }
+    if !are_zero(node, base + end, base + k.slots) {
+        return false;
+    }
+    are_zero(node, base, base + first)
+}
+
 // Whether the start is below the queue's length, the items at most it, and the slots outside the items 0.
 fn is_in_shape(node: &[u32], k: Kind, q: usize) -> bool
     requires { ⌜ Placed k (now node) q ⌝ }
@@ -61,15 +96,7 @@ fn is_in_shape(node: &[u32], k: Kind, q: usize) -> bool
     if k.slots < count {
         return false;
     }
-    let mut i = count;
-    while i < k.slots {
-        let at = queues::slot_at(k, q, first, i);
-        if node[at] != 0 {
-            return false;
-        }
-        i += 1;
-    }
-    true
+    is_clear(node, k, q, first, count)
 }
 
 // Whether the items lie between the two, both included.

@@ -1,12 +1,12 @@
 -- STEP 1, one item: 'drop it, give its chain back in j'. Assumes nothing.
 use mathlib.Core.Path.{_≡_, refl, sym, ap, ap₂, _∙_, subst}
 use mathlib.Core.List.{List, [], _∷_, _++_}
-use Prim.Native.Nat.{ℕ, _+_, _≤_, _<_}
+use Prim.Native.Nat.{ℕ, _+_, _<_}
 use native.Mathlib.Omega.{arith}
 use lib.ListN.{length, getD}
 use Rattle.words.proofs.Lists.{put, put-other}
 use Rattle.settings.specs.declared.Settings.{Settings}
-use Rattle.layout.specs.Places.{nodeSize, memorySize, node, withNode, ackAt}
+use Rattle.layout.specs.Places.{nodeSize, node, withNode, ackAt}
 use Rattle.blocks.specs.Moves.{givenBack}
 use Rattle.blocks.proofs.Moves.{length-given}
 use Rattle.queues.specs.Queue.{ackKind}
@@ -21,7 +21,7 @@ use Rattle.moves.proofs.Memory.{with-long, with-node}
 use Rattle.moves.proofs.Formed.{at-here, at-other}
 use Rattle.moves.proofs.Works.{acknowledge-works}
 use Rattle.postman.specs.declared.Round.{Round}
-use Rattle.postman.specs.Position.{at, atRest}
+use Rattle.postman.specs.Position.{atRest}
 use Rattle.stages_keep.specs.Steps.{collected}
 use Rattle.stages_keep.proofs.Standing.{Front, withPosition, front-with, front-then, goes-midway, here-rest}
 use Rattle.stages_keep.proofs.Shown.{ack-shown, chain-shown}

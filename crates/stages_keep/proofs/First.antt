@@ -1,30 +1,28 @@
 -- STAGE 1, 'take space in j; copy': the copy is held, or the room count has risen. Assumes nothing.
 use mathlib.Core.Path.{_≡_, refl, sym, ap, ap₂, _∙_, subst}
-use mathlib.Core.Bool.{true, false, cond}
+use mathlib.Core.Bool.{true, false}
 use mathlib.Core.List.{List, [], _∷_, map}
 use Prim.Native.Nat.{ℕ, _+_, _≤_, _<_}
 use native.Mathlib.Omega.{arith}
 use lib.Dec.{leb}
 use lib.ListN.{length, getD, take, drop}
 use borrow.Author.Tests.{leb-true}
-use Rattle.words.proofs.Lists.{put, put-same, put-other, split, same?}
+use Rattle.words.proofs.Lists.{put, put-other, split}
 use Rattle.settings.specs.declared.Settings.{Settings}
-use Rattle.layout.specs.Places.{nodeSize, memorySize, node, withNode, firstFreeAt, roomAt}
+use Rattle.layout.specs.Places.{nodeSize, node, withNode, firstFreeAt, roomAt}
 use Rattle.blocks.specs.Chain.{needs, free}
 use Rattle.blocks.specs.Moves.{enough, taken}
 use Rattle.blocks.proofs.Moves.{length-taken}
 use Rattle.letters.specs.Letter.{letter, written, copied}
 use Rattle.queues.specs.Moves.{counted}
-use Rattle.sound.specs.Reading.{tableIn, sendItems}
+use Rattle.sound.specs.Reading.{tableIn}
 use Rattle.sound.specs.Letters.{toldLength}
 use Rattle.answers.specs.Numbers.{tooFewBlocks}
 use Rattle.machine.specs.Machine.{Letter, gap, first, firsts, Live, wordsOf, Node, Machine}
 use Rattle.machine.specs.Represents.{Right}
 use Rattle.machine.proofs.Gives.{gives-stretch, gives-list, gives-letter}
-use Rattle.moves.specs.Letters.{liveOnes}
-use Rattle.stages_keep.specs.Way.{toCarry}
 use Rattle.moves.proofs.Made.{placed, Working}
-use Rattle.moves.proofs.Memory.{with-long, with-node, node-with, with-with}
+use Rattle.moves.proofs.Memory.{with-node, node-with, with-with}
 use Rattle.moves.proofs.Queues.{length-counted}
 use Rattle.moves.proofs.Calls.{first-is}
 use Rattle.moves.proofs.Works.{needs-some}
@@ -35,7 +33,7 @@ use Rattle.postman.specs.declared.Stage.the-variants.{Done, Stopped}
 use Rattle.postman.specs.Position.{at, atRest}
 use Rattle.postman.specs.Round.{Did, did, onStage}
 use Rattle.stages_keep.specs.Steps.{firstOf, spaceOf, copiedIn}
-use Rattle.stages_keep.proofs.Standing.{Midway, Here, Beside, withPosition, front-with, goes-midway, here-at, here-hold}
+use Rattle.stages_keep.proofs.Standing.{withPosition, front-with, goes-midway, here-at, here-hold}
 use Rattle.stages_keep.proofs.Shown.{send-shown, told-shown, first-live, first-right}
 use Rattle.stages_keep.proofs.Going.{Is, Goes, still-way, right-hand}
 

@@ -16,7 +16,7 @@ use Rattle.sound.proofs.Gives.{gives-turn}
 use Rattle.machine.specs.Machine.{Letter, wordsOf, Machine}
 use Rattle.machine.proofs.Letters.{length-firsts}
 use Rattle.postman.specs.declared.Stage.{Stage}
-use Rattle.postman.specs.declared.Stage.the-variants.{Done, Stopped}
+use Rattle.postman.specs.declared.Stage.the-variants.{Done}
 use Rattle.postman.specs.declared.Position.{Position}
 use Rattle.postman.specs.declared.Round.{Round}
 use Rattle.postman.specs.Position.{at, atRest, positionOf, standing}
@@ -25,12 +25,12 @@ use Rattle.stages_keep.specs.Steps.{spaceOf, copiedIn, queued, acknowled
 use Rattle.postman.specs.Asked.{SoundAt, Waits, Owes}
 use Rattle.stages_keep.proofs.Standing.{machineAt, stands-represents, midway-of, here-of, stands-midway}
 use Rattle.stages_keep.proofs.Shown.{some-of, send-shown, ack-shown}
-use Rattle.stages_keep.proofs.Going.{Is, Goes, one-of}
+use Rattle.stages_keep.proofs.Going.{Is, one-of}
 use Rattle.stages_keep.proofs.First.{first-goes}
 use Rattle.stages_keep.proofs.Second.{second-goes}
 use Rattle.stages_keep.proofs.Third.{not-done}
 use Rattle.stages_keep.proofs.Collect.{collect-goes}
-use Rattle.stages_keep.proofs.Went.{Went, reached, how?, rest-is, i-in, handed-went, delivered-went, carried-went, carried-all-went}
+use Rattle.stages_keep.proofs.Went.{Went, how?, rest-is, i-in, handed-went, delivered-went, carried-went, carried-all-went}
 
 -- ---- what a stage asks for, and what it leaves
 module _ (s : Settings) (m : List ℕ) (j : ℕ) (p : Position) where

@@ -1,14 +1,13 @@
 -- STAGE 2, 'append to the task queue, closing gaps as above': the copy in the hand is in the queue, or its full count has risen. Assumes nothing.
-use mathlib.Core.Path.{_≡_, refl, sym, ap, ap₂, _∙_, subst}
+use mathlib.Core.Path.{_≡_, refl, sym, ap, _∙_, subst}
 use mathlib.Core.List.{List, [], _∷_, _++_, map}
 use Prim.Native.Nat.{ℕ, _+_, _≤_, _<_}
 use native.Mathlib.Omega.{arith}
 use lib.ListN.{length, getD, take}
-use Rattle.words.specs.Count.{occurs, downFrom}
 use Rattle.words.proofs.Count.{down-range}
 use Rattle.words.proofs.Lists.{put, put-same, put-other, same?}
 use Rattle.settings.specs.declared.Settings.{Settings}
-use Rattle.layout.specs.Places.{nodeSize, node, withNode, taskAt}
+use Rattle.layout.specs.Places.{node, withNode, taskAt}
 use Rattle.tasks.specs.Table.{queueOf}
 use Rattle.queues.specs.declared.Appended.{Appended}
 use Rattle.queues.specs.declared.Appended.the-variants.{Done as Appended-done, Full as Appended-full}
@@ -28,11 +27,10 @@ use Rattle.moves.proofs.Made.{placed, Working}
 use Rattle.moves.proofs.Queues.{length-task-appended}
 use Rattle.moves.proofs.Rising.{task-full-works}
 use Rattle.moves.proofs.Hands.{resume-works, resume-gap-works}
-use Rattle.postman.specs.declared.Stage.the-variants.{Done, Stopped}
 use Rattle.postman.specs.Position.{at}
 use Rattle.postman.specs.Round.{Did, did, onStage}
 use Rattle.stages_keep.specs.Steps.{onAppend, queueFor, queued}
-use Rattle.stages_keep.proofs.Standing.{Midway, Here, Front, Beside, withPosition, front-with, goes-midway, here-at, here-hold}
+use Rattle.stages_keep.proofs.Standing.{Here, Front, withPosition, front-with, goes-midway, here-at, here-hold}
 use Rattle.stages_keep.proofs.Shown.{words-shown, first-live, first-right}
 use Rattle.stages_keep.proofs.Way.{carries-one}
 use Rattle.stages_keep.proofs.Going.{Is, Goes, stop-way, source-node, queue-in, queue-bound, right-queue}

@@ -2,7 +2,7 @@
 --     stand-node, stand-table, stand-settings, stand-length     his position stored changes nothing else
 --     begins-midway     a memory that is sound with him at a position; ends-midway     and back, with another position
 --     goes-midway     nodes anew, the other postmen's hands and the queues to them as they were
-use mathlib.Core.Path.{_≡_, refl, sym, ap, ap₂, _∙_, subst}
+use mathlib.Core.Path.{_≡_, sym, ap, _∙_, subst}
 use mathlib.Core.Bool.{true}
 use mathlib.Core.List.{List, [], _∷_, map}
 use Prim.Native.Nat.{ℕ, _+_, _*_, _≤_, _<_}

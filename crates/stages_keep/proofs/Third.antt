@@ -1,6 +1,5 @@
 -- STAGE 3, 'append the source's block to j's acknowledge queue for that node; drop the send item', or the queue's full count has risen. Assumes nothing.
-use mathlib.Core.Path.{_≡_, refl, sym, ap, ap₂, _∙_, subst}
-use mathlib.Core.Bool.{true, false, cond}
+use mathlib.Core.Path.{_≡_, refl, sym, ap, _∙_, subst}
 use mathlib.Core.List.{List, [], _∷_, _++_}
 use Prim.Native.Nat.{ℕ, _+_, _≤_, _<_}
 use native.Mathlib.Omega.{arith}
@@ -10,11 +9,10 @@ use borrow.Author.Tests.{ltb-true, ltb-false, lt-ltb, le-ltb}
 use Rattle.words.proofs.Lists.{put, put-same, put-other, split, same?}
 use Rattle.settings.specs.declared.Settings.{Settings}
 use Rattle.layout.specs.Places.{nodeSize, memorySize, node, withNode, ackAt, sendAt}
-use Rattle.queues.specs.declared.Appended.the-variants.{Done as Appended-done, Full as Appended-full}
 use Rattle.queues.specs.Queue.{sendKind, ackKind, items}
 use Rattle.queues.specs.Moves.{appended, appendAnswer, dropped}
 use Rattle.queues.proofs.Views.{length-appended, length-dropped}
-use Rattle.sound.specs.Reading.{tableIn, sendItems}
+use Rattle.sound.specs.Reading.{tableIn}
 use Rattle.answers.specs.Numbers.{acknowledgeQueueFull}
 use Rattle.machine.specs.Machine.{Letter, first, firsts, Node, Machine}
 use Rattle.machine.proofs.Letters.{length-firsts}
@@ -28,8 +26,8 @@ use Rattle.moves.proofs.Works.{hand-over-works}
 use Rattle.postman.specs.declared.Stage.{Stage}
 use Rattle.postman.specs.declared.Stage.the-variants.{Done, Stopped}
 use Rattle.postman.specs.Position.{at, atRest}
-use Rattle.postman.specs.Round.{Did, did, onStage}
-use Rattle.stages_keep.specs.Steps.{onAppend, firstOf, acknowledged, sendDropped}
+use Rattle.postman.specs.Round.{onStage}
+use Rattle.stages_keep.specs.Steps.{firstOf, acknowledged, sendDropped}
 use Rattle.stages_keep.proofs.Standing.{Front, withPosition, front-with, front-then, goes-midway, here-rest, here-at}
 use Rattle.stages_keep.proofs.Shown.{send-shown}
 use Rattle.stages_keep.proofs.Way.{carry-stage, carry-away, carry-over, carry-same, carries-none}

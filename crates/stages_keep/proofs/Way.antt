@@ -3,10 +3,9 @@
 --     carry-stage, carry-away, carry-over, carry-same     what is still to be handed over; carries-none, carries-one, carries-then
 --     carries-way     THE SAME LETTERS ON THE WAY
 use mathlib.Core.Path.{_≡_, refl, sym, ap, ap₂, _∙_}
-use mathlib.Core.Bool.{Bool, true, false, cond, _&&_}
+use mathlib.Core.Bool.{Bool, true, false}
 use mathlib.Core.List.{List, [], _∷_, _++_, map, map-append, append-assoc, append-nil}
 use Prim.Native.Nat.{ℕ, _+_, _<_}
-use native.Mathlib.Omega.{arith}
 use lib.Dec.{eqb}
 use lib.ListN.{getD, drop}
 use borrow.Author.Tests.{eqb-true, eq-eqb, ne-eqb}

@@ -2,13 +2,10 @@
 --     handed-went, delivered-went, carried-went     a letter, from each stage on
 --     carried-all-went, carried-from-went, collected-all-went, collected-from-went     steps 2 and 1; resumed-went, gone-went     a turn
 use mathlib.Core.Path.{_≡_, refl, sym, ap, _∙_, subst}
-use mathlib.Core.Bool.{true, false}
 use mathlib.Core.List.{List, [], _∷_, _++_, map}
 use Prim.Native.Nat.{ℕ, zero, suc, _+_, _-_, _≤_, _<_}
 use native.Mathlib.Omega.{arith}
-use lib.Dec.{eqb}
 use lib.ListN.{length, getD, take, length-append}
-use borrow.Author.Tests.{eqb-true, eqb-false, eq-eqb, ne-eqb}
 use Rattle.words.proofs.Lists.{split, same?}
 use Rattle.settings.specs.declared.Settings.{Settings}
 use Rattle.layout.specs.Places.{nodes}
@@ -21,12 +18,12 @@ use Rattle.postman.specs.declared.Stage.the-variants.{Done, Stopped}
 use Rattle.postman.specs.declared.Position.{Position}
 use Rattle.postman.specs.declared.Round.{Round}
 use Rattle.postman.specs.Position.{at, atRest}
-use Rattle.postman.specs.Round.{Did, Post, post, onStage, stopped, oneLetter, stage, andThen, into}
-use Rattle.stages_keep.specs.Steps.{spaceOf, copiedIn, queued, acknowledged, sendDropped, handedOn, delivered, carried, carriedAll, carriedFrom, collected, collectedAll, collectedFrom, clearsFirst, resumed, gone}
+use Rattle.postman.specs.Round.{Post, post, onStage, stopped, oneLetter, stage, andThen, into}
+use Rattle.stages_keep.specs.Steps.{spaceOf, copiedIn, queued, acknowledged, handedOn, delivered, carried, carriedAll, carriedFrom, collected, collectedAll, collectedFrom, clearsFirst, resumed, gone}
 use Rattle.stages_keep.proofs.Standing.{withPosition, here-rest, goes-midway}
 use Rattle.stages_keep.proofs.Shown.{some-of, send-shown, ack-shown}
 use Rattle.stages_keep.proofs.Way.{carries-none, carries-then}
-use Rattle.stages_keep.proofs.Going.{Is, Goes, one-of, still-way}
+use Rattle.stages_keep.proofs.Going.{Is, one-of, still-way}
 use Rattle.stages_keep.proofs.First.{first-goes}
 use Rattle.stages_keep.proofs.Second.{second-goes}
 use Rattle.stages_keep.proofs.Third.{not-done, third-goes, third-stops}

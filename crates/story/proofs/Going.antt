@@ -1,5 +1,5 @@
 -- A call on a memory that a run has reached goes as its rules say: the test of the memory needs no computing. Assumes nothing.
-use mathlib.Core.Path.{_≡_, refl, sym, ap, ap₂, _∙_, subst}
+use mathlib.Core.Path.{_≡_, ap, ap₂, _∙_, subst}
 use mathlib.Core.Bool.{true, _||_}
 use mathlib.Core.List.{List, [], _∷_, _++_}
 use Prim.Native.Nat.{ℕ}
@@ -11,11 +11,9 @@ use Rattle.sound.specs.Sound.{sound}
 use Rattle.posting.specs.declared.Sent.{Sent}
 use Rattle.posting.specs.declared.Sent.the-variants.{Done as Sent-done}
 use Rattle.send.specs.Outcome.{Outcome as SentOutcome, fits, delivered, send}
-use Rattle.receive.specs.declared.Received.{Received}
-use Rattle.receive.specs.declared.Received.the-variants.{Done as Received-done}
 use Rattle.receive.specs.Outcome.{Outcome as ReceivedOutcome, collected, receive}
 use Rattle.turn.specs.Outcome.{Outcome as TurnedOutcome, taken, turn}
-use Rattle.history.specs.Runs.{Call, Sends, Receives, Turns, Past, sentLetter, acceptedBy, receivedBy, afterCall}
+use Rattle.history.specs.Runs.{Sends, Receives, Turns, Past, sentLetter, acceptedBy, receivedBy, afterCall}
 use Rattle.history.proofs.History.{Kept, goes-on}
 
 -- the run has come to p: its memory is o, the letters accepted and received are these

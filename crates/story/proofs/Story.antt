@@ -2,8 +2,7 @@
 --     stops-at-3, stops-at-2, finishes     what the turns of node 1 answer
 --     at-3, at-2, at-end     what was accepted and received, and the words that list writes
 use mathlib.Core.Path.{_≡_, refl}
-use mathlib.Core.Bool.{true}
-use mathlib.Core.List.{List, [], _∷_, _++_}
+use mathlib.Core.List.{List, [], _∷_}
 use Prim.Native.Nat.{ℕ, zero, suc}
 use lib.ListN.{replicate}
 use Rattle.words.specs.Words.{every, more}
@@ -22,7 +21,7 @@ use Rattle.queues.specs.Items.{live, gapFlag}
 use Rattle.gaps.specs.Close.{laid as gapsLaid, closed, cramped, roomy}
 use Rattle.taking.specs.Find.{from, wanted, firstFrom}
 use Rattle.taking.specs.Take.{cleared, firstOut, out, flagged}
-use Rattle.sound.specs.Reading.{stageOf, otherOf, heldOf, settingsIn}
+use Rattle.sound.specs.Reading.{stageOf, otherOf, heldOf}
 use Rattle.sound.specs.Letters.{wordsFrom}
 use Rattle.setup.specs.declared.SetUp.the-variants.{Done as SetUp-done}
 use Rattle.setup.specs.Outcome.{setUp}

@@ -1,8 +1,8 @@
 -- The run: three tasks on two nodes, four letters, a queue full at each of two stages.
-use mathlib.Core.List.{List, [], _∷_, _++_}
+use mathlib.Core.List.{List, [], _∷_}
 use Prim.Native.Nat.{ℕ, zero, suc}
 use lib.ListN.{replicate}
-use Rattle.history.specs.Runs.{Call, SetsUp, Sends, Receives, Turns, Past, sentLetter, afterCall, afterAll}
+use Rattle.history.specs.Runs.{Call, SetsUp, Sends, Receives, Turns, Past, sentLetter, afterCall}
 
 -- n ids that are bound to none
 abbrev pub unbound : ℕ → List ℕ

@@ -1,16 +1,15 @@
 -- A SOUND MEMORY STAYS SOUND, whether the turn finishes or stops; and what the turn does to the machine. Assumes nothing.
 --     turn-sound     of a sound memory; turn-fixed     size, settings and task table stay
 --     turn-turns     the letters carried, and the letters on the way the same; turn-refused     another memory stays
-use mathlib.Core.Path.{_≡_, refl, sym, ap, ap₂, _∙_, subst}
-use mathlib.Core.Bool.{true, false, cond}
+use mathlib.Core.Path.{_≡_, refl, sym, ap, _∙_, subst}
+use mathlib.Core.Bool.{true, false}
 use mathlib.Core.List.{List, _++_, map}
 use Prim.Native.Nat.{ℕ, _+_, _*_, _≤_, _<_}
 use native.Mathlib.Omega.{arith}
-use lib.Dec.{ltb}
-use lib.ListN.{length, getD, set, length-set}
+use lib.ListN.{length}
 use lib.Seq.{set-getD}
 use borrow.Author.Tests.{lt-ltb, le-ltb}
-use Rattle.words.proofs.Lists.{split, le-or-lt}
+use Rattle.words.proofs.Lists.{le-or-lt}
 use mathlib.Core.Logic.{⊎-elim}
 use Rattle.settings.specs.declared.Settings.{Settings}
 use Rattle.layout.specs.Places.{turnAt}
@@ -23,24 +22,21 @@ use Rattle.machine.specs.Represents.{RepresentsAt, Represents}
 use Rattle.machine.specs.Same.{Fixed}
 use Rattle.machine.proofs.Back.{represents-sound-at, same-turn, same-stage, same-other, same-letters}
 use Rattle.moves.specs.Letters.{liveOnes}
-use Rattle.stages_keep.specs.Way.{those, isFrom, isFor, inQueue, toCarry, Carries}
+use Rattle.stages_keep.specs.Way.{those, isFrom, inQueue, toCarry, Carries}
 use Rattle.moves.proofs.Memory.{set-settings, set-table}
 use Rattle.moves.proofs.Kept.{turn-kept}
 use Rattle.postman.specs.declared.Stage.{Stage}
 use Rattle.postman.specs.declared.Stage.the-variants.{Done, Stopped as Halted}
 use Rattle.postman.specs.declared.Position.{Position}
-use Rattle.postman.specs.declared.Round.{Round}
 use Rattle.postman.specs.Position.{at, atRest, positionOf, standing, nextTurn, kept}
 use Rattle.postman.specs.Round.{Post, atStart, onStage}
 use Rattle.stages_keep.specs.Steps.{gone}
 use Rattle.postman.specs.Asked.{SoundAt}
-use Rattle.stages_keep.proofs.Standing.{machineAt, represents-midway, stand-settings, stand-table, stand-length}
-use Rattle.stages_keep.proofs.Going.{Is}
+use Rattle.stages_keep.proofs.Standing.{machineAt, represents-midway, stand-settings, stand-table}
 use Rattle.stages_keep.proofs.Way.{carry-same, carries-way}
 use Rattle.stages_keep.proofs.Went.{Went, reached, none, how?, gone-went}
 use Rattle.stages_keep.proofs.Laws.{begins, stands-is}
-use Rattle.turn.specs.declared.Turned.{Turned}
-use Rattle.turn.specs.Outcome.{Outcome, answered, taken, turn}
+use Rattle.turn.specs.Outcome.{answered, taken, turn}
 use Rattle.turn_keeps.specs.Turns.{lettersOf, Turns}
 
 -- machines that show the same

@@ -1,0 +1,158 @@
+-- The slots outside the items, as they stand in the stretch: two runs of words, or one where the items run round. Assumes nothing.
+use mathlib.Core.Path.{_≡_, sym, ap, _∙_}
+use mathlib.Core.Bool.{Bool, true, false, _&&_, _||_}
+use mathlib.Core.List.{List}
+use Prim.Native.Nat.{ℕ, _+_, _-_, _%_, _≤_, _<_}
+use native.Mathlib.Nat.{mod-eq-of-lt, mod-eq-sub-mod}
+use native.Mathlib.Omega.{arith}
+use mathlib.Core.Logic.{⊎-elim}
+use lib.Dec.{eqb, ltb}
+use lib.ListN.{getD}
+use borrow.Author.Tests.{eqb-true, eq-eqb, lt-ltb, le-ltb, le-leb}
+use Rattle.words.specs.Words.{every}
+use Rattle.words.proofs.Lists.{split, le-or-lt, and-true, and-join, same-test, every-at, every-all}
+use Rattle.queues.specs.declared.Kind.{Kind}
+use Rattle.queues.specs.Queue.{start, items, itemAt}
+use Rattle.sound.specs.Queues.{inShape}
+use Rattle.sound.proofs.Tests.{every-none, every-more}
+use Rattle.shapes.specs.Shape.{zeroes, clearOutside}
+
+-- ---- words that are 0
+module _ (l : List ℕ) (a e : ℕ) where
+  abbrev zero : ℕ → Bool
+  zero i = eqb (getD l (a + i) 0) 0
+
+  zero-at : zeroes l a e ≡ true → (p : ℕ) → a ≤ p → p < e → getD l p 0 ≡ 0
+  unfolding zeroes
+  zero-at h p x y =
+      let d : a + (p - a) ≡ p = omega arith in
+      ap (λ (n : ℕ). getD l n 0) (sym d) ∙ eqb-true (getD l (a + (p - a)) 0) 0 (every-at zero (e - a) h (p - a) (omega arith))
+
+  zero-all : ((p : ℕ) → a ≤ p → p < e → getD l p 0 ≡ 0) → zeroes l a e ≡ true
+  unfolding zeroes
+  zero-all f = every-all zero (e - a) (λ i h. eq-eqb (getD l (a + i) 0) 0 (f (a + i) (omega arith) (omega arith)))
+
+  -- a turn of the loop
+  pub zero-none : every (a - a) (λ i. eqb (getD l (a + i) 0) 0) ≡ true
+  zero-none = let d : a - a ≡ 0 = omega arith in rw d (every-none zero)
+
+  pub zero-more : (i : ℕ) → a ≤ i → every (i - a) (λ i. eqb (getD l (a + i) 0) 0) ≡ true → getD l i 0 ≡ 0 → every (i + 1 - a) (λ i. eqb (getD l (a + i) 0) 0) ≡ true
+  zero-more i h p z =
+      let d : i + 1 - a ≡ i - a + 1 = omega arith in
+      let g : a + (i - a) ≡ i = omega arith in
+      rw d (every-more zero (i - a) p (eq-eqb (getD l (a + (i - a)) 0) 0 (ap (λ (n : ℕ). getD l n 0) g ∙ z)))
+
+  pub zero-no : (i : ℕ) → a ≤ i → i < e → (getD l i 0 ≡ 0 → ⊥) → false ≡ zeroes l a e
+  zero-no i h g n = split (zeroes l a e) (λ t. absurd (n (zero-at t i h g))) (λ t. sym t)
+
+  pub zero-yes : (i : ℕ) → i ≡ e → every (i - a) (λ i. eqb (getD l (a + i) 0) 0) ≡ true → true ≡ zeroes l a e
+  unfolding zeroes
+  zero-yes i q h = sym (rw q at h)
+
+-- ---- a queue's slots
+module _ (k : Kind) (l : List ℕ) (q : ℕ) where
+  abbrev S : ℕ
+  S = k .slots
+
+  abbrev f : ℕ
+  f = start k l q
+
+  abbrev c : ℕ
+  c = items k l q
+
+  -- slot p as it stands
+  abbrev stands : ℕ → ℕ
+  stands p = getD l (q + k .head + p) 0
+
+  there : (i p : ℕ) → (f + i) % S ≡ p → itemAt k l q i ≡ stands p
+  there i p e = let d : q + (k .head + p) ≡ q + k .head + p = omega arith in ap (λ (n : ℕ). getD l (q + (k .head + n)) 0) e ∙ ap (λ (n : ℕ). getD l n 0) d
+
+  clear-at : clearOutside k l q ≡ true → (i : ℕ) → c ≤ i → i < S → itemAt k l q i ≡ 0
+  unfolding clearOutside
+  clear-at h i x y = eqb-true (itemAt k l q i) 0 (rw (le-ltb i c x) at (every-at (λ i. ltb i c || eqb (itemAt k l q i) 0) S h i y))
+
+  clear-all : ((i : ℕ) → c ≤ i → i < S → itemAt k l q i ≡ 0) → clearOutside k l q ≡ true
+  unfolding clearOutside
+  clear-all g =
+      every-all (λ i. ltb i c || eqb (itemAt k l q i) 0) S
+      (λ i y. ⊎-elim (λ x. rw (le-ltb i c x) (eq-eqb (itemAt k l q i) 0 (g i x y))) (λ x. rw (lt-ltb i c x)) (le-or-lt c i))
+
+  module _ (fs : f < S) (cs : c ≤ S) where
+    -- the items do not run round: what is behind them, and what is before them
+    pub clear-straight : f + c ≤ S → zeroes l (q + k .head + (f + c)) (q + k .head + S) && zeroes l (q + k .head) (q + k .head + f) ≡ clearOutside k l q
+    clear-straight h =
+        same-test (zeroes l (q + k .head + (f + c)) (q + k .head + S) && zeroes l (q + k .head) (q + k .head + f)) (clearOutside k l q)
+        (λ e.
+        let u = and-true (zeroes l (q + k .head + (f + c)) (q + k .head + S)) (zeroes l (q + k .head) (q + k .head + f)) e in
+        clear-all (λ i x y. ⊎-elim
+        (λ w. there i (f + i - S) (mod-eq-sub-mod w ∙ mod-eq-of-lt (omega arith)) ∙ zero-at l (q + k .head) (q + k .head + f) (u .1) (q + k .head + (f + i - S)) (omega arith) (omega arith))
+        (λ w. there i (f + i) (mod-eq-of-lt w) ∙ zero-at l (q + k .head + (f + c)) (q + k .head + S) (u .0) (q + k .head + (f + i)) (omega arith) (omega arith))
+        (le-or-lt S (f + i))))
+        (λ e. and-join (zeroes l (q + k .head + (f + c)) (q + k .head + S)) (zeroes l (q + k .head) (q + k .head + f))
+        (zero-all l (q + k .head + (f + c)) (q + k .head + S) (λ p x y. behind e p x y))
+        (zero-all l (q + k .head) (q + k .head + f) (λ p x y. before e p x y)))
+      where
+        behind : clearOutside k l q ≡ true → (p : ℕ) → q + k .head + (f + c) ≤ p → p < q + k .head + S → getD l p 0 ≡ 0
+        behind e p x y =
+            let r : ℕ = p - (q + k .head) in
+            let d : q + k .head + (p - (q + k .head)) ≡ p = omega arith in
+            let i : ℕ = p - (q + k .head) - f in
+            let s : f + (p - (q + k .head) - f) ≡ p - (q + k .head) = omega arith in
+            ap (λ (n : ℕ). getD l n 0) (sym d) ∙ sym (there i r (ap (λ (n : ℕ). n % S) s ∙ mod-eq-of-lt (omega arith))) ∙ clear-at e i (omega arith) (omega arith)
+
+        before : clearOutside k l q ≡ true → (p : ℕ) → q + k .head ≤ p → p < q + k .head + f → getD l p 0 ≡ 0
+        before e p x y =
+            let r : ℕ = p - (q + k .head) in
+            let d : q + k .head + (p - (q + k .head)) ≡ p = omega arith in
+            let i : ℕ = S - f + (p - (q + k .head)) in
+            let s : f + (S - f + (p - (q + k .head))) - S ≡ p - (q + k .head) = omega arith in
+            ap (λ (n : ℕ). getD l n 0) (sym d) ∙ sym (there i r (mod-eq-sub-mod (omega arith) ∙ ap (λ (n : ℕ). n % S) s ∙ mod-eq-of-lt (omega arith))) ∙ clear-at e i (omega arith) (omega arith)
+
+    -- the items run round: what is between their last and their first
+    pub clear-round : S < f + c → zeroes l (q + k .head + (f + c - S)) (q + k .head + f) ≡ clearOutside k l q
+    clear-round h =
+        same-test (zeroes l (q + k .head + (f + c - S)) (q + k .head + f)) (clearOutside k l q)
+        (λ e. clear-all (λ i x y.
+        there i (f + i - S) (mod-eq-sub-mod (omega arith) ∙ mod-eq-of-lt (omega arith)) ∙ zero-at l (q + k .head + (f + c - S)) (q + k .head + f) e (q + k .head + (f + i - S)) (omega arith) (omega arith)))
+        (λ e. zero-all l (q + k .head + (f + c - S)) (q + k .head + f) (λ p x y. between e p x y))
+      where
+        between : clearOutside k l q ≡ true → (p : ℕ) → q + k .head + (f + c - S) ≤ p → p < q + k .head + f → getD l p 0 ≡ 0
+        between e p x y =
+            let r : ℕ = p - (q + k .head) in
+            let d : q + k .head + (p - (q + k .head)) ≡ p = omega arith in
+            let i : ℕ = S - f + (p - (q + k .head)) in
+            let s : f + (S - f + (p - (q + k .head))) - S ≡ p - (q + k .head) = omega arith in
+            ap (λ (n : ℕ). getD l n 0) (sym d) ∙ sym (there i r (mod-eq-sub-mod (omega arith) ∙ ap (λ (n : ℕ). n % S) s ∙ mod-eq-of-lt (omega arith))) ∙ clear-at e i (omega arith) (omega arith)
+
+    -- the rule, where start and items are right
+    pub shape-clear : (r : Bool) → r ≡ clearOutside k l q → r ≡ inShape k l q
+    unfolding inShape clearOutside
+    shape-clear r e = rw (lt-ltb f S fs, le-leb c S cs) e
+
+-- ---- by the start and the number of items, as the code has read them
+module _ (k : Kind) (l : List ℕ) (q first count : ℕ) (x : (first ≡ start k l q) × (first < k .slots)) (y : (count ≡ items k l q) × (count ≤ k .slots)) where
+  fs : start k l q < k .slots
+  fs = omega arith
+
+  cs : items k l q ≤ k .slots
+  cs = omega arith
+
+  pub told-round : k .slots < first + count → (r : Bool) → r ≡ zeroes l (q + k .head + (first + count - k .slots)) (q + k .head + first) → r ≡ clearOutside k l q
+  told-round h r e =
+      let e′ : r ≡ zeroes l (q + k .head + (start k l q + items k l q - k .slots)) (q + k .head + start k l q) = rw (x .0, y .0) at e in
+      e′ ∙ clear-round k l q fs cs (omega arith)
+
+  module _ (h : first + count ≤ k .slots) (r : Bool) (e : r ≡ zeroes l (q + k .head + (first + count)) (q + k .head + k .slots)) where
+    behind-is : r ≡ zeroes l (q + k .head + (start k l q + items k l q)) (q + k .head + k .slots)
+    behind-is = rw (x .0, y .0) at e
+
+    pub told-behind : r ≡ false → false ≡ clearOutside k l q
+    told-behind z =
+        let n : zeroes l (q + k .head + (start k l q + items k l q)) (q + k .head + k .slots) ≡ false = sym behind-is ∙ z in
+        sym (sym (clear-straight k l q fs cs (omega arith)) ∙ ap (λ (b : Bool). b && zeroes l (q + k .head) (q + k .head + start k l q)) n)
+
+    pub told-before : r ≡ true → (s : Bool) → s ≡ zeroes l (q + k .head) (q + k .head + first) → s ≡ clearOutside k l q
+    told-before z s g =
+        let n : zeroes l (q + k .head + (start k l q + items k l q)) (q + k .head + k .slots) ≡ true = sym behind-is ∙ z in
+        let g′ : s ≡ zeroes l (q + k .head) (q + k .head + start k l q) = rw (x .0) at g in
+        g′ ∙ sym (ap (λ (b : Bool). b && zeroes l (q + k .head) (q + k .head + start k l q)) n) ∙ clear-straight k l q fs cs (omega arith)
