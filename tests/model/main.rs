@@ -1,5 +1,6 @@
 // An independent model of the mail layer: plays scripts, makes them, and tests itself.
 
+mod bad;
 mod bench;
 mod blocks;
 mod check;
@@ -29,6 +30,7 @@ model make setup SEED > script     makes a script of set-ups
 model make calls SEED [CALLS] > script
                                    makes a script of so many calls of all kinds, 2000 if not given
 model make ends SEED > script      makes a script of letters' ways at the least and greatest settings
+model make bad K > script          makes script K at the edge of the format; model count bad tells how many there are
 model make records SEED COUNT > records
                                    makes so many records for mailrun, and a short one
 model cover < script               shows what a script covers
@@ -58,6 +60,8 @@ fn answer(args: &[&str]) -> Option<(Vec<u8>, bool)> {
         ["make", "calls", seed] => make::calls_script(seed.parse().ok()?, DEFAULT_CALLS.parse().ok()?),
         ["make", "calls", seed, calls] => make::calls_script(seed.parse().ok()?, calls.parse().ok()?),
         ["make", "ends", seed] => make::ends_script(seed.parse().ok()?),
+        ["make", "bad", k] => bad::make(k.parse().ok()?)?,
+        ["count", "bad"] => format!("{}\n", bad::count()).into_bytes(),
         ["make", "records", seed, count] => records::make(seed.parse().ok()?, count.parse().ok()?),
         ["cover"] => cover::cover(&input()).text().into_bytes(),
         ["check"] => {
