@@ -4,25 +4,22 @@
 use mathlib.Core.Path.{_≡_, refl, sym, ap, ap₂, _∙_, subst}
 use mathlib.Core.Bool.{Bool, true, false, cond, _&&_, false≢true}
 use mathlib.Core.List.{List, [], _∷_, _++_, map, append-nil, append-assoc}
-use Prim.Native.Nat.{ℕ, _+_, _-_, _≤_, _<_}
+use Prim.Native.Nat.{ℕ, _+_, _-_, _≤_}
 use native.Mathlib.Omega.{arith}
 use lib.Dec.{eqb}
 use lib.ListN.{length, getD, take, drop}
 use lib.Seq.{take-append-seam}
-use borrow.Author.Tests.{eqb-true, eq-eqb}
+use borrow.Author.Tests.{eq-eqb}
 use Rattle.words.proofs.Count.{down-in}
-use Rattle.words.proofs.Lists.{split, and-true}
+use Rattle.words.proofs.Lists.{split}
 use Rattle.settings.specs.declared.Settings.{Settings}
 use Rattle.settings.specs.Range.{inRange}
 use Rattle.settings.specs.Made.{settingsOf}
 use Rattle.layout.specs.Places.{memorySize}
-use Rattle.layout.proofs.NodeRows.{by-task}
 use Rattle.tasks.specs.Table.{nodeOf, queueOf, isBound, rightTable}
 use Rattle.tasks.proofs.Laws.{seat-below, right-length}
 use Rattle.letters.specs.Letter.{onto}
 use Rattle.sound.specs.Reading.{settingsIn, tableIn}
-use Rattle.sound.specs.Queues.{taskOf}
-use Rattle.sound.specs.Letters.{rightHeader, fromTo, rightPlace}
 use Rattle.sound.specs.Sound.{sound}
 use Rattle.sound.proofs.Gives.{gives-table}
 use Rattle.setup.specs.declared.SetUp.the-variants.{Done as SetUp-done, SettingOutOfRange, WrongTable, OtherSize}
@@ -50,11 +47,11 @@ use Rattle.machine.proofs.Back.{same-letters}
 use Rattle.moves.specs.Letters.{liveOnes}
 use Rattle.stages_keep.specs.Way.{those, between, inQueue, toCarry, onTheWay}
 use Rattle.moves.proofs.Items.{all-live}
-use Rattle.moves.proofs.Seats.{task-is}
 use Rattle.send_keeps.proofs.Send.{send-sound, send-fixed, send-refused, send-done, send-allowed}
 use Rattle.receive_keeps.specs.Receives.{Receives}
 use Rattle.receive_keeps.proofs.Receive.{receive-sound, receive-fixed, receive-refused, receive-done}
 use Rattle.turn_keeps.proofs.Turn.{turn-sound, turn-fixed, turn-turns}
+use Rattle.stages_keep.proofs.Headers.{Header, header-says, task-says}
 use Rattle.stages_keep.proofs.Way.{those-append}
 use Rattle.history.specs.Runs.{Call, SetsUp, Sends as Sends-call, Receives as Receives-call, Turns as Turns-call, Lists, Past, sentLetter, acceptedBy, receivedBy, afterSetUp, afterCall, afterAll}
 use Rattle.history.specs.Demand.{Holds}
@@ -81,38 +78,18 @@ whole (a ∷ b ∷ c ∷ d ∷ e ∷ ws) h = refl
 -- a right letter in the task queue of a bound task is the letter from its source to that task, with its body
 module _ (table : List ℕ) (right : rightTable table ≡ true) (destination : ℕ) (bound : isBound table destination ≡ true) (ws : List ℕ)
     (ok : Right table (nodeOf table destination) (13 + queueOf table destination) ws) where
-  abbrev i : ℕ
-  i = nodeOf table destination
-
-  abbrev q : ℕ
-  q = queueOf table destination
-
-  q64 : q < 64
-  q64 = seat-below table destination right bound .1
-
   pub for-destination : getD ws 2 0 ≡ destination
-  unfolding rightPlace
-  for-destination =
-      let d : 13 + q - 13 ≡ q = omega arith in
-      eqb-true (getD ws 2 0) destination
-      (ap (eqb (getD ws 2 0)) (sym (ap (taskOf table i) d ∙ task-is table right destination bound))
-      ∙ sym (by-task (13 + q) true (fromTo i (13 + q - 1) ws) (fromTo i (13 + q - 7) ws) (eqb (getD ws 2 0) (taskOf table i (13 + q - 13))) true (omega arith) (omega (arith, q64)))
-      ∙ ok .place)
+  for-destination = task-says table right destination bound ws (ok .place)
 
-  nodes-are : (nodeOf table (getD ws 0 0) ≡ getD ws 1 0) × (nodeOf table (getD ws 2 0) ≡ getD ws 3 0)
-  unfolding rightHeader
-  nodes-are =
-      let x = and-true (isBound table (getD ws 0 0)) _ (ok .header) in
-      let y = and-true (eqb (nodeOf table (getD ws 0 0)) (getD ws 1 0)) _ (x .1) in
-      let z = and-true (isBound table (getD ws 2 0)) _ (y .1) in
-      (eqb-true (nodeOf table (getD ws 0 0)) (getD ws 1 0) (y .0), eqb-true (nodeOf table (getD ws 2 0)) (getD ws 3 0) (z .1))
+  says : Header table ws
+  says = header-says table ws (ok .header)
 
   body-long : getD ws 4 0 ≡ 5 + length (drop 5 ws)
   body-long = ok .told ∙ ap length (whole ws (ok .least)) ∙ omega arith
 
   pub letter-is : sentLetter table (getD ws 0 0) destination (drop 5 ws) ≡ ws
   unfolding letterOf
-  letter-is = sym (whole ws (ok .least) ∙ rw (← nodes-are .0, ← nodes-are .1, body-long, for-destination))
+  letter-is = sym (whole ws (ok .least) ∙ rw (← says .from, ← says .to, body-long, for-destination))
 
 -- ---- A SUCCESSFUL SET-UP: no letter accepted, received or on the way
 module _ (s : Settings) (table : List ℕ) (r : inRange s ≡ true) (ok : rightTable table ≡ true) where
@@ -381,8 +358,7 @@ module _ (p : Past) (k : Kept p) (destination source : ℕ) (out : List ℕ) whe
 
     -- its source is a bound task
     source-bound : isBound t₂ a ≡ true
-    unfolding rightHeader
-    source-bound = rw (r .source-told) (and-true (isBound t₂ (getD v 0 0)) _ (right .header) .0)
+    source-bound = rw (r .source-told) (header-says t₂ v (right .header) .source)
 
     -- it is the first on the way from its source
     first-letter : getD v 2 0 ≡ destination → onTheWay t₂ (machineOf (p .memory)) a destination ≡ v ∷ onTheWay t₂ (machineOf m₂) a destination

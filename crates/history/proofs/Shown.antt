@@ -6,7 +6,7 @@ use Prim.Native.Nat.{ℕ, zero, suc, _+_, _-_, _*_, _≤_, _<_}
 use native.Mathlib.Omega.{arith}
 use lib.Dec.{eqb, leb, ltb}
 use lib.ListN.{length, getD, drop}
-use borrow.Author.Tests.{eqb-true, eq-eqb, ne-eqb, ltb-true}
+use borrow.Author.Tests.{eq-eqb, ne-eqb, ltb-true}
 use Rattle.words.specs.Words.{all}
 use Rattle.words.proofs.Lists.{split, same?, and-true, and-false, all-head}
 use Rattle.settings.specs.declared.Settings.{Settings}
@@ -16,13 +16,11 @@ use Rattle.tasks.proofs.Laws.{seat-below}
 use Rattle.letters.specs.Letter.{onto}
 use Rattle.queues.specs.Items.{live}
 use Rattle.sound.specs.Reading.{settingsIn, tableIn, stageOf, otherOf, sendItems, taskItems}
-use Rattle.sound.specs.Queues.{taskOf}
-use Rattle.sound.specs.Letters.{wordsFrom, rightHeader, fromTo, rightPlace, rightLetter}
+use Rattle.sound.specs.Letters.{wordsFrom, rightLetter}
 use Rattle.sound.specs.Blocks.{begun}
 use Rattle.sound.specs.Sound.{sound}
 use Rattle.sound.proofs.Gives.{gives-table, gives-range}
 use Rattle.sound.proofs.Held.{gives-at, right-parts}
-use Rattle.layout.proofs.NodeRows.{by-send, by-task}
 use Rattle.listing.specs.declared.Shown.{Shown}
 use Rattle.listing.specs.declared.Listed.the-variants.{Done, OutTooShort}
 use Rattle.listing.specs.List.{handedOver, shown, fromTask, fromSend, waiting, fromNodes, ofTask, ofTasks, listed, laidOut}
@@ -33,7 +31,7 @@ use Rattle.machine.proofs.Spelled.{first-from}
 use Rattle.machine.proofs.Places.{shown-send, shown-task, begun-low, begun-task}
 use Rattle.moves.specs.Letters.{liveOnes}
 use Rattle.stages_keep.specs.Way.{those, between, inQueue, toCarry, onTheWay}
-use Rattle.moves.proofs.Seats.{task-is}
+use Rattle.stages_keep.proofs.Headers.{header-says, send-says, task-says}
 use Rattle.stages_keep.proofs.Way.{those-append}
 use Rattle.history.specs.Demand.{shownIn}
 
@@ -163,31 +161,15 @@ module _ (memory : List ℕ) (a b : ℕ) where
     j6 : j < 6
     j6 = seat-below t a right x .0
 
-    test : ℕ → ℕ → ℕ → Bool
-    test i p = rightLetter s (node s memory i) t i p
-
     -- a letter in b's queue is for b
     for-b : (z : ℕ) → rightLetter s (node s memory k) t k (13 + q) z ≡ true → getD (W k z) 2 0 ≡ b
-    unfolding rightPlace
-    for-b z e =
-        let h = right-parts s (node s memory k) t k (13 + q) z e in
-        let d : 13 + q - 13 ≡ q = omega arith in
-        eqb-true (getD (W k z) 2 0) b
-        (ap (eqb (getD (W k z) 2 0)) (sym (ap (taskOf t k) d ∙ task-is t right b y))
-        ∙ sym (by-task (13 + q) true (fromTo k (13 + q - 1) (W k z)) (fromTo k (13 + q - 7) (W k z)) (eqb (getD (W k z) 2 0) (taskOf t k (13 + q - 13))) true (omega arith) (omega (arith, q64)))
-        ∙ h .place)
+    for-b z e = task-says t right b y (W k z) (right-parts s (node s memory k) t k (13 + q) z e .place)
 
     -- a letter in node i's send queue comes from a task on i
     from-i : (i z : ℕ) → rightLetter s (node s memory i) t i (1 + k) z ≡ true → nodeOf t (getD (W i z) 0 0) ≡ i
-    unfolding rightPlace rightHeader
     from-i i z e =
         let h = right-parts s (node s memory i) t i (1 + k) z e in
-        let p : fromTo i (1 + k - 1) (W i z) ≡ true =
-        sym (by-send (1 + k) true (fromTo i (1 + k - 1) (W i z)) (fromTo i (1 + k - 7) (W i z)) (eqb (getD (W i z) 2 0) (taskOf t i (1 + k - 13))) true (omega arith) (omega (arith, k6))) ∙ h .place in
-        let n : getD (W i z) 1 0 ≡ i = eqb-true (getD (W i z) 1 0) i (and-true (eqb (getD (W i z) 1 0) i) (eqb (getD (W i z) 3 0) (1 + k - 1)) p .0) in
-        let g = and-true (isBound t (getD (W i z) 0 0)) _ (h .header) in
-        let d = and-true (eqb (nodeOf t (getD (W i z) 0 0)) (getD (W i z) 1 0)) _ (g .1) in
-        eqb-true (nodeOf t (getD (W i z) 0 0)) (getD (W i z) 1 0) (d .0) ∙ n
+        header-says t (W i z) (h .header) .from ∙ send-says t i k (W i z) k6 (h .place) .0
 
     task-all : all (rightLetter s (node s memory k) t k (13 + q)) (live (taskItems s memory k q)) ≡ true
     task-all =

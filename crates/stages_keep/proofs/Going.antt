@@ -6,16 +6,16 @@ use Prim.Native.Nat.{ℕ, _+_, _-_, _<_}
 use native.Mathlib.Omega.{arith}
 use lib.Dec.{eqb}
 use lib.ListN.{length, getD}
-use borrow.Author.Tests.{eqb-true, eq-eqb}
-use Rattle.words.proofs.Lists.{put-same, put-other, same?, and-true}
+use borrow.Author.Tests.{eq-eqb}
+use Rattle.words.proofs.Lists.{put-same, put-other, same?}
 use Rattle.settings.specs.declared.Settings.{Settings}
 use Rattle.layout.specs.Numbers.{sourceTaskWord, destinationTaskWord}
-use Rattle.layout.proofs.NodeRows.{by-head, by-send, by-task}
+use Rattle.layout.proofs.NodeRows.{by-head, by-task}
 use Rattle.tasks.specs.Table.{nodeOf, queueOf, isBound, rightTable}
 use Rattle.tasks.proofs.Laws.{seat-below}
 use Rattle.sound.specs.Reading.{tableIn}
 use Rattle.sound.specs.Queues.{taskOf}
-use Rattle.sound.specs.Letters.{rightHeader, fromTo, rightPlace}
+use Rattle.sound.specs.Letters.{fromTo, rightPlace}
 use Rattle.machine.specs.Machine.{Letter, wordsOf, Node, Machine}
 use Rattle.machine.specs.Represents.{Right}
 use Rattle.moves.specs.Letters.{liveOnes}
@@ -23,6 +23,7 @@ use Rattle.stages_keep.specs.Way.{toCarry, Carries}
 use Rattle.moves.proofs.Seats.{bound-some, task-is}
 use Rattle.postman.specs.declared.Position.{Position}
 use Rattle.stages_keep.proofs.Standing.{Midway, Here, withPosition}
+use Rattle.stages_keep.proofs.Headers.{Header, header-says, send-says}
 use Rattle.stages_keep.proofs.Way.{carry-stage, carry-same, carries-none}
 
 -- the memory, with node j's postman at position p, represents M
@@ -72,36 +73,23 @@ one-of (L ∷ K ∷ ls) w e f = absurd (let z : length (map wordsOf (L ∷ K ∷
 
 -- ---- what the header says of a letter that waits in node i for node j
 module _ (table : List ℕ) (right : rightTable table ≡ true) (i j : ℕ) (h : j < 6) (ws : List ℕ) (ok : Right table i (1 + j) ws) where
-  abbrev a : ℕ
-  a = getD ws 0 0
-
   abbrev d : ℕ
   d = getD ws 2 0
 
-  parts : (isBound table a ≡ true) × (nodeOf table a ≡ getD ws 1 0) × (isBound table d ≡ true) × (nodeOf table d ≡ getD ws 3 0)
-  unfolding rightHeader
-  parts =
-      let x = and-true (isBound table a) _ (ok .header) in
-      let y = and-true (eqb (nodeOf table a) (getD ws 1 0)) _ (x .1) in
-      let z = and-true (isBound table d) _ (y .1) in
-      (x .0, eqb-true (nodeOf table a) (getD ws 1 0) (y .0), z .0, eqb-true (nodeOf table d) (getD ws 3 0) (z .1))
+  says : Header table ws
+  says = header-says table ws (ok .header)
 
   ends : (getD ws 1 0 ≡ i) × (getD ws 3 0 ≡ j)
-  unfolding rightPlace
-  ends =
-      let e : 1 + j - 1 ≡ j = omega arith in
-      let x : fromTo i j ws ≡ true = ap (λ (k : ℕ). fromTo i k ws) (sym e) ∙ sym (by-send (1 + j) true (fromTo i (1 + j - 1) ws) (fromTo i (1 + j - 7) ws) _ true (omega arith) (omega arith)) ∙ ok .place in
-      let y = and-true (eqb (getD ws 1 0) i) (eqb (getD ws 3 0) j) x in
-      (eqb-true (getD ws 1 0) i (y .0), eqb-true (getD ws 3 0) j (y .1))
+  ends = send-says table i j ws h (ok .place)
 
   pub source-node : nodeOf table (getD ws sourceTaskWord 0) ≡ i
-  source-node = parts .1 ∙ ends .0
+  source-node = says .from ∙ ends .0
 
   pub destination-bound : isBound table (getD ws destinationTaskWord 0) ≡ true
-  destination-bound = parts .2
+  destination-bound = says .destination
 
   pub destination-node : nodeOf table (getD ws destinationTaskWord 0) ≡ j
-  destination-node = parts .3 ∙ ends .1
+  destination-node = says .to ∙ ends .1
 
   pub queue-in : queueOf table (getD ws destinationTaskWord 0) < 64
   queue-in = seat-below table d right destination-bound .1

@@ -1,5 +1,6 @@
 pub mod Standing
 pub mod Shown
+pub mod Headers
 pub mod Way
 pub mod Going
 pub mod First
