@@ -2,7 +2,7 @@
 use mathlib.Core.Path.{_≡_, refl, sym, ap, ap₂, _∙_}
 use mathlib.Core.List.{List, [], _∷_, _++_, append-nil, append-assoc}
 use Prim.Native.Nat.{ℕ, zero, suc, _+_, _-_, _*_, _/_, _%_, _≤_, _<_, min}
-use native.Mathlib.Nat.{suc-mul, zero-mul, add-div-right, mod-lt}
+use native.Mathlib.Nat.{suc-mul, zero-mul, add-div-right, mod-lt, div-eq-of-lt, mod-eq-of-lt}
 use native.Mathlib.Omega.{arith}
 use lib.ListN.{length, getD, take, drop, length-append, length-take, length-drop, drop-of-length-le}
 use lib.Seq.{sets, sets-eq, length-sets, take-all, take-at, drop-drop, drop-append-le, drop-append-add, length-take-le}
@@ -243,6 +243,19 @@ module _ (s : Settings) (node : List ℕ) (k b : ℕ) (l : Lies s node (k + 1) b
   word-is owner at e q =
       let n : k / (s .b - 1) + 1 - 1 ≡ k / (s .b - 1) = omega arith in
       ap (λ (i : ℕ). getD node (i + k % (s .b - 1)) 0) (q ∙ ap (blockAt s) (e ∙ ap (λ (i : ℕ). after s node i b) n))
+
+  -- a word that the first block carries
+  module _ (near : k < s .b - 1) where
+    none : k / (s .b - 1) ≡ 0
+    none = div-eq-of-lt near
+
+    pub near-in : (1 ≤ b) × (b ≤ s .m)
+    unfolding after
+    near-in = owner-in b (rw none)
+
+    pub near-is : (at : ℕ) → at ≡ blockAt s b → getD node (at + k) 0 ≡ word s node b k
+    unfolding word after
+    near-is at q = rw (none, mod-eq-of-lt near, q)
 
 -- ---- the whole letter
 pub covers-lies : (s : Settings) (node : List ℕ) (n b owed : ℕ) → Lies s node n b → owed ≡ needs s n → Covers s node owed b n

@@ -12,8 +12,8 @@ ghost use Rattle.blocks.specs.Asked.{Block, Walks};
 ghost use Rattle.letters.specs.Letter.{onto, word, told, letter, piece, laid, written, copied};
 ghost use Rattle.letters.specs.Asked.{Lies, Carries, Covers, Copies};
 
-// Word k of the letter that block b begins.
-pub fn word_of(node: &[u32], s: Settings, b: u32, k: usize) -> u32
+// Word k of the letter that block b begins, found through its chain.
+fn word_through(node: &[u32], s: Settings, b: u32, k: usize) -> u32
     requires { ⌜ Lies s (now node) (k + 1) b ⌝ }
     ensures { λ r. ⌜ r ≡ word s (now (node .entry)) b k ⌝ }
 {
@@ -21,6 +21,18 @@ pub fn word_of(node: &[u32], s: Settings, b: u32, k: usize) -> u32
     let owner = blocks::last_of(node, s, b, k / room + 1);
     let at = layout::block_at(s, owner as usize);
     node[at + k % room]
+}
+
+// Word k of the letter that block b begins: mostly the first block carries it, and no link is followed.
+pub fn word_of(node: &[u32], s: Settings, b: u32, k: usize) -> u32
+    requires { ⌜ Lies s (now node) (k + 1) b ⌝ }
+    ensures { λ r. ⌜ r ≡ word s (now (node .entry)) b k ⌝ }
+{
+    if k < s.b - 1 {
+        let at = layout::block_at(s, b as usize);
+        return node[at + k];
+    }
+    word_through(node, s, b, k)
 }
 
 // The length that the header tells, of the letter that block b begins.
