@@ -177,7 +177,7 @@ covers-some s node (suc owed) b n c h = omega arith
 
 -- ---- one step of the reader
 -- a block's link, counted from the word before the first block
-link-from : (s : Settings) → InRange s → (b : ℕ) → 1 ≤ b → linkFrom (blockAt s 1 - 1) (s .b - 1) b ≡ linkAt s b
+pub link-from : (s : Settings) → InRange s → (b : ℕ) → 1 ≤ b → linkFrom (blockAt s 1 - 1) (s .b - 1) b ≡ linkAt s b
 unfolding blockAt blocksAt
 link-from s r b low =
     let w = r .b .low in

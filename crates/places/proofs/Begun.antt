@@ -1,19 +1,21 @@
 -- What stands at each kind of place, and what is known of the queue there. Assumes nothing.
-use mathlib.Core.Path.{_≡_, refl, sym, _∙_}
+use mathlib.Core.Path.{_≡_, refl, sym, ap, _∙_}
 use mathlib.Core.Bool.{Bool, true, cond, _&&_}
 use mathlib.Core.List.{List, [], _∷_}
-use Prim.Native.Nat.{ℕ, _+_, _-_, _≤_, _<_}
+use Prim.Native.Nat.{ℕ, _+_, _-_, _*_, _≤_, _<_}
 use native.Mathlib.Omega.{arith}
 use lib.Dec.{eqb, leb}
+use lib.Seq.{drop-cons}
 use borrow.Author.Tests.{eq-eqb, ne-eqb, leb-true}
 use Rattle.words.specs.Words.{part}
 use Rattle.words.proofs.Lists.{and-true}
 use Rattle.settings.specs.declared.Settings.{Settings}
 use Rattle.layout.specs.Places.{node, nodeAt, nodeSize, sendAt, ackAt, taskAt}
 use Rattle.layout.specs.Asked.{Stretch}
+use Rattle.layout.proofs.Fits.{nodes-fit}
 use Rattle.layout.proofs.NodeRows.{by-send, by-ack, by-task}
 use Rattle.queues.specs.declared.Kind.{Kind}
-use Rattle.queues.specs.Queue.{sendKind, ackKind, taskKind, contents, Queue}
+use Rattle.queues.specs.Queue.{sendKind, ackKind, taskKind, items, run, contents, Queue}
 use Rattle.queues.specs.Items.{live}
 use Rattle.queues.proofs.Items.{live-cons}
 use Rattle.letters.proofs.Copies.{node-stretch}
@@ -44,6 +46,15 @@ module _ (s : Settings) (memory l t row : List ℕ) (i : ℕ) (g : Lent s memory
   hand-none marks h =
       rw (begun-hand, ne-eqb (stageOf memory i) 2 h) (record { is = sym (right-none s l t i 0 marks); marks = λ e. sym (marks-none s l t i 0 marks) })
 
+  -- the word that names it
+  one : part memory (6 + i * 3 + 2) (6 + i * 3 + 3) ≡ heldOf memory i ∷ []
+  one =
+      let z = g .looked .sized .long in
+      let f = nodes-fit s in
+      let h = g .small in
+      let d : 6 + i * 3 + 3 - (6 + i * 3 + 2) ≡ 1 = omega arith in
+      rw (d, drop-cons memory (6 + i * 3 + 2) 0 (omega arith))
+
   -- a block held is not 0
   held-some : stageOf memory i ≡ 2 → heldOf memory i ≡ 0 → ⊥
   unfolding standsRight
@@ -56,40 +67,49 @@ module _ (s : Settings) (memory l t row : List ℕ) (i : ℕ) (g : Lent s memory
       let d = leb-true 1 (heldOf memory i) (and-true (leb 1 (heldOf memory i)) _ c .0) in
       omega arith
 
-  pub begun-held : stageOf memory i ≡ 2 → live (heldOf memory i ∷ []) ≡ begun s memory i 0
+  pub begun-held : stageOf memory i ≡ 2 → live (part memory (6 + i * 3 + 2) (6 + i * 3 + 3)) ≡ begun s memory i 0
   unfolding held live
-  begun-held e = live-cons (heldOf memory i) [] (held-some e) ∙ sym (begun-hand ∙ rw (eq-eqb (stageOf memory i) 2 e))
+  begun-held e = ap live one ∙ live-cons (heldOf memory i) [] (held-some e) ∙ sym (begun-hand ∙ rw (eq-eqb (stageOf memory i) 2 e))
 
   -- ---- the queues
-  module _ (k : Kind) (q p : ℕ) where
-    module _ (lo : 1 ≤ p) (hi : p < 7) (ek : k ≡ sendKind s) (eq : q ≡ sendAt s (p - 1)) where
+  module _ (k : Kind) (q n : ℕ) where
+    module _ (hi : n < 6) (ek : k ≡ sendKind s) (eq : q ≡ sendAt s n) where
       pub send-is : Queue k l q
-      send-is = rw (ek, eq, g .stretch) (send-queue s memory (g .looked .sized) i (g .small) (g .looked .queues i (g .small)) (p - 1) (omega arith))
+      send-is = rw (ek, eq, g .stretch) (send-queue s memory (g .looked .sized) i (g .small) (g .looked .queues i (g .small)) n hi)
 
-      pub begun-send : live (contents k l q) ≡ begun s memory i p
+      pub begun-send : live (contents k l q) ≡ begun s memory i (1 + n)
       unfolding begun
       begun-send =
-          rw (ek, eq, g .stretch) (send-live s memory (g .looked .sized) i (g .small) (g .looked .queues i (g .small)) (p - 1) (omega arith))
-          ∙ sym (by-send p _ (sendItems s memory i (p - 1)) _ _ [] lo hi)
+          let e : 1 + n - 1 ≡ n = omega arith in
+          rw (ek, eq, g .stretch) (send-live s memory (g .looked .sized) i (g .small) (g .looked .queues i (g .small)) n hi)
+          ∙ sym (by-send (1 + n) _ (sendItems s memory i (1 + n - 1)) _ _ [] (omega arith) (omega arith) ∙ ap (sendItems s memory i) e)
 
-    module _ (lo : 13 ≤ p) (hi : p < 77) (ek : k ≡ taskKind s) (eq : q ≡ taskAt s (p - 13)) where
+    module _ (hi : n < 64) (ek : k ≡ taskKind s) (eq : q ≡ taskAt s n) where
       pub task-is : Queue k l q
-      task-is = rw (ek, eq, g .stretch) (task-queue s memory (g .looked .sized) i (g .small) (g .looked .queues i (g .small)) (p - 13) (omega arith))
+      task-is = rw (ek, eq, g .stretch) (task-queue s memory (g .looked .sized) i (g .small) (g .looked .queues i (g .small)) n hi)
 
-      pub begun-task : live (contents k l q) ≡ begun s memory i p
+      pub begun-task : live (contents k l q) ≡ begun s memory i (13 + n)
       unfolding begun
-      begun-task = rw (ek, eq, g .stretch) (sym (by-task p _ _ _ (live (taskItems s memory i (p - 13))) [] lo hi))
+      begun-task =
+          let e : 13 + n - 13 ≡ n = omega arith in
+          rw (ek, eq, g .stretch) (sym (by-task (13 + n) _ _ _ (live (taskItems s memory i (13 + n - 13))) [] (omega arith) (omega arith) ∙ ap (λ (x : ℕ). live (taskItems s memory i x)) e))
 
-    -- the queue stands on node p - 7
-    module _ (m : List ℕ) (lo : 7 ≤ p) (hi : p < 13) (em : m ≡ node s memory (p - 7)) (ek : k ≡ ackKind s) (eq : q ≡ ackAt s i) where
+    -- the queue stands on node n
+    module _ (m : List ℕ) (hi : n < 6) (em : m ≡ node s memory n) (ek : k ≡ ackKind s) (eq : q ≡ ackAt s i) where
       pub ack-is : Queue k m q
-      ack-is = rw (ek, eq, em) (ack-queue s memory (g .looked .sized) (p - 7) (omega arith) (g .looked .queues (p - 7) (omega arith)) i (g .small))
+      ack-is = rw (ek, eq, em) (ack-queue s memory (g .looked .sized) n hi (g .looked .queues n hi) i (g .small))
 
-      pub begun-ack : live (contents k m q) ≡ begun s memory i p
+      pub begun-ack : live (contents k m q) ≡ begun s memory i (7 + n)
       unfolding begun
       begun-ack =
-          rw (ek, eq, em) (ack-live s memory (g .looked .sized) (p - 7) (omega arith) (g .looked .queues (p - 7) (omega arith)) i (g .small))
-          ∙ sym (by-ack p _ _ (ackItems s memory (p - 7) i) _ [] lo hi)
+          let e : 7 + n - 7 ≡ n = omega arith in
+          rw (ek, eq, em) (ack-live s memory (g .looked .sized) n hi (g .looked .queues n hi) i (g .small))
+          ∙ sym (by-ack (7 + n) _ _ (ackItems s memory (7 + n - 7) i) _ [] (omega arith) (omega arith) ∙ ap (λ (x : ℕ). ackItems s memory x i) e)
+
+-- a queue with no items begins no letter
+pub none-live : (k : Kind) (l : List ℕ) (q n : ℕ) → n ≡ items k l q → n ≡ 0 → live (contents k l q) ≡ []
+unfolding live run
+none-live k l q n e z = rw (sym e ∙ z)
 
 -- what was judged of a list is judged of the same list under another name
 pub judged-same : (s : Settings) (l t : List ℕ) (i p : ℕ) (marks xs ys : List ℕ) (r : Bool) (new : List ℕ) → xs ≡ ys

@@ -1,15 +1,18 @@
 -- Marks are counts: after a list is marked, each mark has risen by how often the block stands in the list. Assumes nothing.
-use mathlib.Core.Path.{_≡_, refl}
-use mathlib.Core.Bool.{true}
+use mathlib.Core.Path.{_≡_, refl, sym, _∙_}
+use mathlib.Core.Bool.{Bool, true, false}
 use mathlib.Core.List.{List, [], _∷_}
 use Prim.Native.Nat.{ℕ, _+_, _≤_, _<_}
+use native.Mathlib.Numerals.{add-one}
 use native.Mathlib.Omega.{arith}
 use lib.Dec.{eqb}
 use lib.ListN.{length, getD, set, length-set}
 use lib.Seq.{getD-set-same, getD-set-other}
 use borrow.Author.Tests.{eq-eqb, eqb-true}
 use Rattle.words.specs.Count.{occurs}
-use Rattle.words.proofs.Lists.{same?, and-true, and-join}
+use Rattle.words.specs.Words.{every}
+use Rattle.words.proofs.Lists.{same?, and-true, and-join, and-false}
+use Rattle.sound.proofs.Tests.{and-yes}
 use Rattle.words.proofs.Count.{hit-self, hit-other}
 use Rattle.visits.specs.Marks.{fresh, marked}
 
@@ -42,3 +45,13 @@ once-fresh marks (x ∷ l) h f =
     (λ y. same? y x
     (λ q e. let m = getD-set-same marks x 1 0 (h x (omega (arith, hit-self x))) in rw q (omega (arith, f x, hit-self x)))
     (λ q e. let m = getD-set-other marks x y 1 0 q in omega (arith, f y, hit-other y x q))))
+
+-- ---- a test of all, kept on the way: one more that fails, and one more that holds
+module _ (t : ℕ → Bool) (k : ℕ) (all : Bool) where
+  pub all-no : t k ≡ false → false ≡ every (k + 1) t
+  unfolding every
+  all-no f = rw (add-one k, f) (sym (and-false (every k t)))
+
+  pub all-more : t k ≡ true → all ≡ every k t → all ≡ every (k + 1) t
+  unfolding every
+  all-more f e = rw (add-one k, f) (e ∙ sym (and-yes (every k t)))

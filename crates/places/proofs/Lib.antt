@@ -1,3 +1,4 @@
 pub mod Begun
 pub mod Counts
+pub mod Ranges
 pub mod Once

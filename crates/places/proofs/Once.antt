@@ -51,52 +51,6 @@ module _ (s : Settings) (l marks : List ℕ) (r : Walk) (new : List ℕ) (v : Vi
       let c : clean s l (s .m) first marks ≡ true = told-yes (clean s l (s .m) first marks) (Ended (s .m - length (chainFrom s l first))) Bad r (v .is) (Ended left) (apart left) e .0 in
       record { is = sym (same ∙ c); marks = λ f. v .marks c }
 
--- ---- the places, one after the other
-module _ (s : Settings) (memory l t : List ℕ) (i : ℕ) (old : List ℕ) where
-  -- place p is right after the places before it are marked
-  abbrev pub rightAt : ℕ → Bool
-  rightAt p = lettersRight s l t i p (marked old (standing s memory i p)) (begun s memory i p)
-
-  pub standing-none : old ≡ marked old (standing s memory i 0)
-  unfolding standing marked
-  standing-none = refl
-
-  module _ (row : List ℕ) (g : Lent s memory l t row i) where
-    joined : (n : ℕ) → every n rightAt ≡ every n (λ p. all (rightLetter s (node s memory i) (tableIn memory) i p) (begun s memory i p)) && fresh old (standing s memory i n)
-    unfolding every standing fresh lettersRight
-    joined zero = refl
-    joined (suc n) =
-        let m : List ℕ = marked old (standing s memory i n) in
-        ap₂ _&&_ (joined n) (rw (g .stretch, g .table))
-        ∙ and-cross (every n (λ p. all (rightLetter s (node s memory i) (tableIn memory) i p) (begun s memory i p))) (fresh old (standing s memory i n))
-        (all (rightLetter s (node s memory i) (tableIn memory) i n) (begun s memory i n)) (fresh m (chains s (node s memory i) (begun s memory i n)))
-        ∙ ap (λ (b : Bool). (every n (λ p. all (rightLetter s (node s memory i) (tableIn memory) i p) (begun s memory i p)) && all (rightLetter s (node s memory i) (tableIn memory) i n) (begun s memory i n)) && b)
-        (sym (fresh-append old (standing s memory i n) (chains s (node s memory i) (begun s memory i n))))
-
-    places-is : every 77 rightAt ≡ placesRight s memory i old
-    unfolding placesRight rightLetters
-    places-is = joined 77
-
-    module _ (marks : List ℕ) (p : ℕ) (w : every p rightAt ≡ true) (e : marks ≡ marked old (standing s memory i p)) where
-      pub places-end : p ≡ 77 → Judged (placesRight s memory i old) (marked old (standing s memory i 77)) true marks
-      places-end q = record { is = sym (rw q at w) ∙ places-is; marks = λ f. e ∙ ap (λ (n : ℕ). marked old (standing s memory i n)) q }
-
-      module _ (r : Bool) (new : List ℕ) (v : Judged (lettersRight s l t i p marks (begun s memory i p)) (marked marks (chains s l (begun s memory i p))) r new) where
-        is-at : r ≡ rightAt p
-        is-at = v .is ∙ ap (λ (m : List ℕ). lettersRight s l t i p m (begun s memory i p)) e
-
-        pub places-bad : p < 77 → r ≡ false → Judged (placesRight s memory i old) (marked old (standing s memory i 77)) false new
-        places-bad h f = record { is = sym (every-not rightAt 77 p h (sym is-at ∙ f)) ∙ places-is; marks = λ z. absurd (false≢true z) }
-
-        pub places-next : r ≡ true → (every (p + 1) rightAt ≡ true) × (new ≡ marked old (standing s memory i (p + 1)))
-        unfolding standing
-        places-next f = (
-          every-more rightAt p w (sym is-at ∙ f),
-          rw (add-one p) (v .marks f ∙ ap (λ (m : List ℕ). marked m (chains s l (begun s memory i p))) e
-              ∙ sym (marked-append old (standing s memory i p) (chains s l (begun s memory i p)))
-              ∙ ap (λ (m : List ℕ). marked old (standing s memory i p ++ chains s m (begun s memory i p))) (g .stretch)),
-        )
-
 -- ---- the blocks that are visited are blocks
 module _ (s : Settings) (l t : List ℕ) (i p : ℕ) where
   chains-in : (bs : List ℕ) → all (rightLetter s l t i p) bs ≡ true → (x : ℕ) → 1 ≤ occurs x (chains s l bs) → (1 ≤ x) × (x ≤ s .m)

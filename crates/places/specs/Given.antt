@@ -1,20 +1,20 @@
 -- What is known of a memory once its size, its table, its queues and its positions are looked at, and what is asked of a node then.
 use mathlib.Core.Path.{_≡_}
 use mathlib.Core.Bool.{Bool, true, cond, _&&_}
-use mathlib.Core.List.{List}
-use Prim.Native.Nat.{ℕ, suc, _<_}
+use mathlib.Core.List.{List, [], _++_}
+use Prim.Native.Nat.{ℕ, zero, suc, _+_, _<_}
 use lib.Dec.{eqb, leb}
 use lib.ListN.{length, getD}
-use Rattle.words.specs.Words.{every}
+use Rattle.words.specs.Words.{every, all}
 use Rattle.settings.specs.declared.Settings.{Settings}
 use Rattle.layout.specs.Places.{nodes, firstFreeAt, node}
 use Rattle.layout.specs.Asked.{Sized}
 use Rattle.tasks.specs.Table.{rightTable}
 use Rattle.sound.specs.Reading.{tableIn, stageOf, otherOf, heldOf}
 use Rattle.sound.specs.Queues.{rightQueues}
-use Rattle.sound.specs.Letters.{chainFrom, endsWell}
+use Rattle.sound.specs.Letters.{chainFrom, endsWell, rightLetter}
 use Rattle.sound.specs.Positions.{namesOther}
-use Rattle.sound.specs.Blocks.{standing, rightLetters}
+use Rattle.sound.specs.Blocks.{chains, begun, standing, rightLetters}
 use Rattle.shapes.specs.Seats.{Seats}
 use Rattle.visits.specs.Marks.{fresh}
 
@@ -45,6 +45,17 @@ pub record Lent (s : Settings) (memory words ids row : List ℕ) (i : ℕ) : Typ
 unfoldable pub freeRight : Settings → List ℕ → List ℕ → Bool
 freeRight s stretch marks =
     endsWell s stretch (getD stretch firstFreeAt 0) && fresh marks (chainFrom s stretch (getD stretch firstFreeAt 0))
+
+module _ (s : Settings) (memory : List ℕ) (i a : ℕ) where
+  -- the blocks that stand in the chains of n places from place a on
+  unfoldable pub standingFrom : ℕ → List ℕ
+  standingFrom zero = []
+  standingFrom (suc n) = standingFrom n ++ chains s (node s memory i) (begun s memory i (a + n))
+
+  -- the letters at n places from place a on are right, and none of their blocks has a mark
+  unfoldable pub rangeRight : ℕ → List ℕ → Bool
+  rangeRight n marks =
+      every n (λ j. all (rightLetter s (node s memory i) (tableIn memory) i (a + j)) (begun s memory i (a + j))) && fresh marks (standingFrom n)
 
 -- the letters at every place are right, and none of their blocks has a mark
 unfoldable pub placesRight : Settings → List ℕ → ℕ → List ℕ → Bool

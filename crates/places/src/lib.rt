@@ -1,19 +1,31 @@
 // The places of a node: the letters at each of them, and each block in exactly one place.
+use queues::Kind;
 use settings::Settings;
 use visits::Walk;
 ghost use mathlib.Core.Path.{_≡_};
 ghost use mathlib.Core.Bool.{_&&_};
-ghost use Prim.Native.Nat.{_≤_, _<_};
+ghost use Prim.Native.Nat.{_<_};
 ghost use lib.ListN.{length, getD};
 ghost use Rattle.layout.specs.Places.{firstFreeAt};
 ghost use Rattle.layout.specs.Asked.{Stretch};
+ghost use Rattle.queues.specs.Queue.{Queue, contents};
+ghost use Rattle.queues.specs.Items.{live};
 ghost use Rattle.sound.specs.Reading.{tableIn};
 ghost use Rattle.sound.specs.Letters.{chainFrom};
 ghost use Rattle.sound.specs.Blocks.{chains, begun, standing, eachOnce, rightLetters};
 ghost use Rattle.shapes.specs.Seats.{Seats};
 ghost use Rattle.visits.specs.Marks.{marked};
-ghost use Rattle.visits.specs.Letters.{lettersRight, Judged};
-ghost use Rattle.places.specs.Given.{Looked, Lent, Blank, freeRight, placesRight, allMarked};
+ghost use Rattle.visits.specs.Letters.{lettersRight, Judged, Placing};
+ghost use Rattle.places.specs.Given.{
+  Looked,
+  Lent,
+  Blank,
+  freeRight,
+  standingFrom,
+  rangeRight,
+  placesRight,
+  allMarked,
+};
 
 // The letter in the postman's hand.
 fn is_right_hand(
@@ -22,7 +34,7 @@ fn is_right_hand(
     s: Settings,
     table: &[u32],
     seats: &[u32],
-    marks: &mut [u32],
+    marks: &mut [u8],
     i: usize,
 ) -> bool
     requires { ⌜ Lent s (now memory) (now node) (now table) (now seats) i ⌝ }
@@ -33,101 +45,142 @@ fn is_right_hand(
     if memory[at] != 2 {
         return true;
     }
-    visits::is_right_letter(node, s, table, seats, marks, i, 0, memory[at + 2])
+    let a = at + 2;
+    let e = at + 3;
+    visits::are_right_letters(&memory[a..e], node, s, table, seats, marks, i, 0)
 }
 
-// The letters of send queue p - 1.
+// The letters of the items of a queue, as they stand: one run of words, or two where they run round.
+fn are_right_items(
+    queue: &[u32],
+    k: Kind,
+    q: usize,
+    node: &[u32],
+    s: Settings,
+    table: &[u32],
+    seats: &[u32],
+    marks: &mut [u8],
+    i: usize,
+    p: usize,
+) -> bool
+    requires { ⌜ Queue k (now queue) q ⌝ }
+    requires { ⌜ Placing s (now node) (now table) (now seats) i p ⌝ }
+    requires { ⌜ s .m < length (now marks) ⌝ }
+    ensures { λ r. ⌜ Judged (lettersRight s (now (node .entry)) (now (table .entry)) i p (now (marks .entry)) (live (contents k (now (queue .entry)) q))) (marked (now (marks .entry)) (chains s (now (node .entry)) (live (contents k (now (queue .entry)) q)))) r (now (marks .exit)) ⌝ }
+{
+    let first = queue[q] as usize;
+    let count = queue[q + 1] as usize;
+    let end = first + count;
+    let base = q + k.head;
+    let a = base + first;
+    if k.slots < end {
+        let e = base + k.slots;
+        if !visits::are_right_letters(&queue[a..e], node, s, table, seats, marks, i, p) {
+            return false;
+        }
+        let f = base + (end - k.slots);
+        return visits::are_right_letters(&queue[base..f], node, s, table, seats, marks, i, p);
+    }
+    let e = base + end;
+    visits::are_right_letters(&queue[a..e], node, s, table, seats, marks, i, p)
+}
+
+// The letters of the six send queues, places 1 to 6.
 fn are_right_sends(
     memory: &[u32],
     node: &[u32],
     s: Settings,
     table: &[u32],
     seats: &[u32],
-    marks: &mut [u32],
+    marks: &mut [u8],
     i: usize,
-    p: usize,
 ) -> bool
     requires { ⌜ Lent s (now memory) (now node) (now table) (now seats) i ⌝ }
-    requires { ⌜ (1 ≤ p) × (p < 7) ⌝ }
     requires { ⌜ s .m < length (now marks) ⌝ }
-    ensures { λ r. ⌜ Judged (lettersRight s (now (node .entry)) (now (table .entry)) i p (now (marks .entry)) (begun s (now (memory .entry)) i p)) (marked (now (marks .entry)) (chains s (now (node .entry)) (begun s (now (memory .entry)) i p))) r (now (marks .exit)) ⌝ }
+    ensures { λ r. ⌜ Judged (rangeRight s (now (memory .entry)) i 1 6 (now (marks .entry))) (marked (now (marks .entry)) (standingFrom s (now (memory .entry)) i 1 6)) r (now (marks .exit)) ⌝ }
 {
-    let k = queues::send_kind(s);
-    let q = layout::send_at(s, p - 1);
-    visits::are_right_letters(node, k, q, node, s, table, seats, marks, i, p)
+    let kind = queues::send_kind(s);
+    let mut k: usize = 0;
+    while k < 6 {
+        let q = layout::send_at(s, k);
+        if queues::items_of(node, kind, q) != 0 {
+            if !are_right_items(node, kind, q, node, s, table, seats, marks, i, 1 + k) {
+                return false;
+            }
+        }
+        k += 1;
+    }
+    true
 }
 
-// The letters of node i in acknowledge queue i on node p - 7.
+// The letters of node i in acknowledge queue i on the six nodes, places 7 to 12.
 fn are_right_acks(
     memory: &[u32],
     node: &[u32],
     s: Settings,
     table: &[u32],
     seats: &[u32],
-    marks: &mut [u32],
+    marks: &mut [u8],
     i: usize,
-    p: usize,
 ) -> bool
     requires { ⌜ Lent s (now memory) (now node) (now table) (now seats) i ⌝ }
-    requires { ⌜ (7 ≤ p) × (p < 13) ⌝ }
     requires { ⌜ s .m < length (now marks) ⌝ }
-    ensures { λ r. ⌜ Judged (lettersRight s (now (node .entry)) (now (table .entry)) i p (now (marks .entry)) (begun s (now (memory .entry)) i p)) (marked (now (marks .entry)) (chains s (now (node .entry)) (begun s (now (memory .entry)) i p))) r (now (marks .exit)) ⌝ }
+    ensures { λ r. ⌜ Judged (rangeRight s (now (memory .entry)) i 7 6 (now (marks .entry))) (marked (now (marks .entry)) (standingFrom s (now (memory .entry)) i 7 6)) r (now (marks .exit)) ⌝ }
 {
+    let kind = queues::ack_kind(s);
     let size = layout::node_size(s);
-    let a = layout::node_at(s, p - 7);
-    let e = a + size;
-    let k = queues::ack_kind(s);
     let q = layout::ack_at(s, i);
-    visits::are_right_letters(&memory[a..e], k, q, node, s, table, seats, marks, i, p)
+    let mut k: usize = 0;
+    while k < 6 {
+        let a = layout::node_at(s, k);
+        let e = a + size;
+        if queues::items_of(&memory[a..e], kind, q) != 0 {
+            if !are_right_items(
+                &memory[a..e],
+                kind,
+                q,
+                node,
+                s,
+                table,
+                seats,
+                marks,
+                i,
+                7 + k,
+            ) {
+                return false;
+            }
+        }
+        k += 1;
+    }
+    true
 }
 
-// The letters of task queue p - 13.
+// The letters of the 64 task queues, places 13 to 76; most queues have no items, and that is looked at first.
 fn are_right_tasks(
     memory: &[u32],
     node: &[u32],
     s: Settings,
     table: &[u32],
     seats: &[u32],
-    marks: &mut [u32],
+    marks: &mut [u8],
     i: usize,
-    p: usize,
 ) -> bool
     requires { ⌜ Lent s (now memory) (now node) (now table) (now seats) i ⌝ }
-    requires { ⌜ (13 ≤ p) × (p < 77) ⌝ }
     requires { ⌜ s .m < length (now marks) ⌝ }
-    ensures { λ r. ⌜ Judged (lettersRight s (now (node .entry)) (now (table .entry)) i p (now (marks .entry)) (begun s (now (memory .entry)) i p)) (marked (now (marks .entry)) (chains s (now (node .entry)) (begun s (now (memory .entry)) i p))) r (now (marks .exit)) ⌝ }
+    ensures { λ r. ⌜ Judged (rangeRight s (now (memory .entry)) i 13 64 (now (marks .entry))) (marked (now (marks .entry)) (standingFrom s (now (memory .entry)) i 13 64)) r (now (marks .exit)) ⌝ }
 {
-    let k = queues::task_kind(s);
-    let q = layout::task_at(s, p - 13);
-    visits::are_right_letters(node, k, q, node, s, table, seats, marks, i, p)
-}
-
-// The letters at place p of node i.
-fn are_right_at(
-    memory: &[u32],
-    node: &[u32],
-    s: Settings,
-    table: &[u32],
-    seats: &[u32],
-    marks: &mut [u32],
-    i: usize,
-    p: usize,
-) -> bool
-    requires { ⌜ Lent s (now memory) (now node) (now table) (now seats) i ⌝ }
-    requires { ⌜ p < 77 ⌝ }
-    requires { ⌜ s .m < length (now marks) ⌝ }
-    ensures { λ r. ⌜ Judged (lettersRight s (now (node .entry)) (now (table .entry)) i p (now (marks .entry)) (begun s (now (memory .entry)) i p)) (marked (now (marks .entry)) (chains s (now (node .entry)) (begun s (now (memory .entry)) i p))) r (now (marks .exit)) ⌝ }
-{
-    if p == 0 {
-        return is_right_hand(memory, node, s, table, seats, marks, i);
+    let kind = queues::task_kind(s);
+    let mut k: usize = 0;
+    while k < 64 {
+        let q = layout::task_at(s, k);
+        if queues::items_of(node, kind, q) != 0 {
+            if !are_right_items(node, kind, q, node, s, table, seats, marks, i, 13 + k) {
+                return false;
+            }
+        }
+        k += 1;
     }
-    if p < 7 {
-        return are_right_sends(memory, node, s, table, seats, marks, i, p);
-    }
-    if p < 13 {
-        return are_right_acks(memory, node, s, table, seats, marks, i, p);
-    }
-    are_right_tasks(memory, node, s, table, seats, marks, i, p)
+    true
 }
 
 // The letters at the 77 places of node i.
@@ -137,25 +190,27 @@ fn are_right_places(
     s: Settings,
     table: &[u32],
     seats: &[u32],
-    marks: &mut [u32],
+    marks: &mut [u8],
     i: usize,
 ) -> bool
     requires { ⌜ Lent s (now memory) (now node) (now table) (now seats) i ⌝ }
     requires { ⌜ s .m < length (now marks) ⌝ }
     ensures { λ r. ⌜ Judged (placesRight s (now (memory .entry)) i (now (marks .entry))) (marked (now (marks .entry)) (standing s (now (memory .entry)) i 77)) r (now (marks .exit)) ⌝ }
 {
-    let mut p: usize = 0;
-    while p < 77 {
-        if !are_right_at(memory, node, s, table, seats, marks, i, p) {
-            return false;
-        }
-        p += 1;
+    if !is_right_hand(memory, node, s, table, seats, marks, i) {
+        return false;
     }
-    true
+    if !are_right_sends(memory, node, s, table, seats, marks, i) {
+        return false;
+    }
+    if !are_right_acks(memory, node, s, table, seats, marks, i) {
+        return false;
+    }
+    are_right_tasks(memory, node, s, table, seats, marks, i)
 }
 
 // The free list.
-fn is_right_free(node: &[u32], s: Settings, marks: &mut [u32]) -> bool
+fn is_right_free(node: &[u32], s: Settings, marks: &mut [u8]) -> bool
     requires { ⌜ Stretch s (now node) ⌝ }
     requires { ⌜ s .m < length (now marks) ⌝ }
     ensures { λ r. ⌜ Judged (freeRight s (now (node .entry)) (now (marks .entry))) (marked (now (marks .entry)) (chainFrom s (now (node .entry)) (getD (now (node .entry)) firstFreeAt 0))) r (now (marks .exit)) ⌝ }
@@ -167,19 +222,20 @@ fn is_right_free(node: &[u32], s: Settings, marks: &mut [u32]) -> bool
     true
 }
 
-// Whether blocks 1 to m have a mark.
-fn are_all_marked(marks: &[u32], m: usize) -> bool
+// Whether blocks 1 to m have a mark; all are looked at, so that the compiler may take many at a time.
+fn are_all_marked(marks: &[u8], m: usize) -> bool
     requires { ⌜ m < length (now marks) ⌝ }
     ensures { λ r. ⌜ r ≡ allMarked m (now (marks .entry)) ⌝ }
 {
+    let mut all = true;
     let mut b: usize = 0;
     while b < m {
         if marks[b + 1] != 1 {
-            return false;
+            all = false;
         }
         b += 1;
     }
-    true
+    all
 }
 
 // The fifth and the sixth rule in node i, with no block marked yet.
@@ -189,7 +245,7 @@ fn is_right_marked(
     s: Settings,
     table: &[u32],
     seats: &[u32],
-    marks: &mut [u32],
+    marks: &mut [u8],
     i: usize,
 ) -> bool
     requires { ⌜ Lent s (now memory) (now node) (now table) (now seats) i ⌝ }
@@ -212,7 +268,7 @@ pub fn is_right_node(memory: &[u32], s: Settings, seats: &[u32], i: usize) -> bo
     requires { ⌜ i < 6 ⌝ }
     ensures { λ r. ⌜ r ≡ (eachOnce s (now (memory .entry)) i && rightLetters s (now (memory .entry)) i) ⌝ }
 {
-    let mut marks = [0u32; 1025];
+    let mut marks = [0u8; 1025];
     let size = layout::node_size(s);
     let a = layout::node_at(s, i);
     let e = a + size;

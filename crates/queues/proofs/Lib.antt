@@ -6,3 +6,4 @@ pub mod Items
 pub mod Tasks
 pub mod Views
 pub mod Placing
+pub mod Stands

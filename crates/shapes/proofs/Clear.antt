@@ -2,22 +2,30 @@
 use mathlib.Core.Path.{_≡_, sym, ap, _∙_}
 use mathlib.Core.Bool.{Bool, true, false, _&&_, _||_}
 use mathlib.Core.List.{List}
-use Prim.Native.Nat.{ℕ, _+_, _-_, _%_, _≤_, _<_}
+use Prim.Native.Nat.{ℕ, suc, _+_, _-_, _%_, _≤_, _<_}
 use native.Mathlib.Nat.{mod-eq-of-lt, mod-eq-sub-mod}
 use native.Mathlib.Omega.{arith}
 use mathlib.Core.Logic.{⊎-elim}
 use lib.Dec.{eqb, ltb}
 use lib.ListN.{getD}
-use borrow.Author.Tests.{eqb-true, eq-eqb, lt-ltb, le-ltb, le-leb}
+use lib.Bits.{bitOr, or-zero-l, or-add-and, and-le-r}
+use borrow.Author.Tests.{eqb-true, eq-eqb, ne-eqb, lt-ltb, le-ltb, le-leb}
 use Rattle.words.specs.Words.{every}
-use Rattle.words.proofs.Lists.{split, le-or-lt, and-true, and-join, same-test, every-at, every-all}
+use Rattle.words.proofs.Lists.{same?, le-or-lt, and-true, and-join, same-test, every-at, every-all}
 use Rattle.queues.specs.declared.Kind.{Kind}
 use Rattle.queues.specs.Queue.{start, items, itemAt}
 use Rattle.sound.specs.Queues.{inShape}
-use Rattle.sound.proofs.Tests.{every-none, every-more}
+use Rattle.sound.proofs.Tests.{every-none}
 use Rattle.shapes.specs.Shape.{zeroes, clearOutside}
 
 -- ---- words that are 0
+-- two words joined are 0 when both are
+or-zero : (a b : ℕ) → eqb (bitOr a b) 0 ≡ eqb a 0 && eqb b 0
+or-zero a b =
+    same? a 0
+    (λ z e. rw (e, z, or-zero-l b))
+    (λ z e. rw e (ne-eqb (bitOr a b) 0 (λ y. let s = or-add-and a b in let t = and-le-r a b in z (omega arith))))
+
 module _ (l : List ℕ) (a e : ℕ) where
   abbrev zero : ℕ → Bool
   zero i = eqb (getD l (a + i) 0) 0
@@ -32,22 +40,21 @@ module _ (l : List ℕ) (a e : ℕ) where
   unfolding zeroes
   zero-all f = every-all zero (e - a) (λ i h. eq-eqb (getD l (a + i) 0) 0 (f (a + i) (omega arith) (omega arith)))
 
-  -- a turn of the loop
-  pub zero-none : every (a - a) (λ i. eqb (getD l (a + i) 0) 0) ≡ true
-  zero-none = let d : a - a ≡ 0 = omega arith in rw d (every-none zero)
+  -- a turn of the loop: the bits of the words so far are 0 when each of the words is
+  pub zero-none : true ≡ every (a - a) (λ i. eqb (getD l (a + i) 0) 0)
+  zero-none = let d : a - a ≡ 0 = omega arith in rw d (sym (every-none zero))
 
-  pub zero-more : (i : ℕ) → a ≤ i → every (i - a) (λ i. eqb (getD l (a + i) 0) 0) ≡ true → getD l i 0 ≡ 0 → every (i + 1 - a) (λ i. eqb (getD l (a + i) 0) 0) ≡ true
-  zero-more i h p z =
-      let d : i + 1 - a ≡ i - a + 1 = omega arith in
+  pub zero-more : (i bits : ℕ) → a ≤ i → eqb bits 0 ≡ every (i - a) (λ i. eqb (getD l (a + i) 0) 0)
+      → eqb (bitOr bits (getD l i 0)) 0 ≡ every (i + 1 - a) (λ i. eqb (getD l (a + i) 0) 0)
+  unfolding every
+  zero-more i bits h p =
+      let d : i + 1 - a ≡ suc (i - a) = omega arith in
       let g : a + (i - a) ≡ i = omega arith in
-      rw d (every-more zero (i - a) p (eq-eqb (getD l (a + (i - a)) 0) 0 (ap (λ (n : ℕ). getD l n 0) g ∙ z)))
+      or-zero bits (getD l i 0) ∙ rw (d, g) (ap (λ (b : Bool). b && eqb (getD l i 0) 0) p)
 
-  pub zero-no : (i : ℕ) → a ≤ i → i < e → (getD l i 0 ≡ 0 → ⊥) → false ≡ zeroes l a e
-  zero-no i h g n = split (zeroes l a e) (λ t. absurd (n (zero-at t i h g))) (λ t. sym t)
-
-  pub zero-yes : (i : ℕ) → i ≡ e → every (i - a) (λ i. eqb (getD l (a + i) 0) 0) ≡ true → true ≡ zeroes l a e
+  pub zero-all-told : (i bits : ℕ) → i ≡ e → eqb bits 0 ≡ every (i - a) (λ i. eqb (getD l (a + i) 0) 0) → eqb bits 0 ≡ zeroes l a e
   unfolding zeroes
-  zero-yes i q h = sym (rw q at h)
+  zero-all-told i bits q h = rw q at h
 
 -- ---- a queue's slots
 module _ (k : Kind) (l : List ℕ) (q : ℕ) where
@@ -156,3 +163,20 @@ module _ (k : Kind) (l : List ℕ) (q first count : ℕ) (x : (first ≡ start k
         let n : zeroes l (q + k .head + (start k l q + items k l q)) (q + k .head + k .slots) ≡ true = sym behind-is ∙ z in
         let g′ : s ≡ zeroes l (q + k .head) (q + k .head + start k l q) = rw (x .0) at g in
         g′ ∙ sym (ap (λ (b : Bool). b && zeroes l (q + k .head) (q + k .head + start k l q)) n) ∙ clear-straight k l q fs cs (omega arith)
+
+-- ---- a queue with no items: all its slots, as they stand
+module _ (k : Kind) (l : List ℕ) (q : ℕ) (none : items k l q ≡ 0) where
+  pub empty-is : start k l q < k .slots → zeroes l (q + k .head) (q + k .head + k .slots) ≡ inShape k l q
+  empty-is h =
+      let z : ℕ = start k l q in
+      shape-clear k l q h (omega arith) (zeroes l (q + k .head) (q + k .head + k .slots))
+      (same-test (zeroes l (q + k .head) (q + k .head + k .slots)) (zeroes l (q + k .head + (z + items k l q)) (q + k .head + k .slots) && zeroes l (q + k .head) (q + k .head + z))
+      (λ e. and-join (zeroes l (q + k .head + (z + items k l q)) (q + k .head + k .slots)) (zeroes l (q + k .head) (q + k .head + z))
+      (zero-all l (q + k .head + (z + items k l q)) (q + k .head + k .slots) (λ p x y. zero-at l (q + k .head) (q + k .head + k .slots) e p (omega arith) (omega arith)))
+      (zero-all l (q + k .head) (q + k .head + z) (λ p x y. zero-at l (q + k .head) (q + k .head + k .slots) e p (omega arith) (omega arith))))
+      (λ e. let u = and-true (zeroes l (q + k .head + (z + items k l q)) (q + k .head + k .slots)) (zeroes l (q + k .head) (q + k .head + z)) e in
+      zero-all l (q + k .head) (q + k .head + k .slots) (λ p x y. ⊎-elim
+      (λ w. zero-at l (q + k .head + (z + items k l q)) (q + k .head + k .slots) (u .0) p (omega arith) y)
+      (λ w. zero-at l (q + k .head) (q + k .head + z) (u .1) p x w)
+      (le-or-lt (q + k .head + z) p)))
+      ∙ clear-straight k l q h (omega arith) (omega arith))

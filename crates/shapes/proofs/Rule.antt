@@ -11,7 +11,8 @@ use Rattle.queues.specs.Queue.{taskKind}
 use Rattle.sound.specs.Reading.{tableIn}
 use Rattle.sound.specs.Queues.{taskOf, rightSend, rightAck, rightTask, rightQueues}
 use Rattle.sound.proofs.Tests.{every-same}
-use Rattle.shapes.specs.Seats.{seatAt, Seats}
+use Rattle.tasks.specs.Seat.{seatAt}
+use Rattle.shapes.specs.Seats.{Seats}
 use Rattle.shapes.specs.Shape.{itemsWithin, rightPost, rightSeat, rightSends, rightAcks, rightSeats, rightStretch}
 
 one-seat : (s : Settings) (memory seats : List ℕ) (i q : ℕ) → getD seats (seatAt i q) 0 ≡ taskOf (tableIn memory) i q

@@ -8,7 +8,7 @@ use lib.Dec.{eqb, leb, ltb, leb·zero}
 use lib.ListN.{length, getD}
 use borrow.Author.Tests.{eq-eqb, ne-eqb, le-leb, lt-leb, le-ltb}
 use Rattle.words.specs.Words.{all}
-use Rattle.words.proofs.Lists.{same?, and-false}
+use Rattle.words.proofs.Lists.{split, and-true, and-false}
 use Rattle.layout.specs.Places.{gapWord}
 use Rattle.queues.specs.declared.Kind.{Kind}
 use Rattle.queues.specs.Queue.{start, items, itemAt, run, contents}
@@ -62,17 +62,26 @@ module _ (k : Kind) (l : List ℕ) (q : ℕ) where
     unfolding rightPost
     post-shape e = rw e
 
-    pub post-own : inShape k l q ≡ true → own ≡ true → eqb (items k l q) 0 ≡ rightPost k l q m own
+    -- one with no items
+    pub post-empty : items k l q ≡ 0 → (r : Bool) → r ≡ inShape k l q → r ≡ rightPost k l q m own
     unfolding rightPost itemsWithin run all
-    post-own e o =
-        rw (e, o, length-run k l q 0 (items k l q))
-        (same? (items k l q) 0
-        (λ z t. rw t (rw z))
-        (λ z t. rw t))
+    post-empty z r e = e ∙ split (inShape k l q) (λ f. rw (f, z) (both own)) (λ f. rw f)
+      where
+        both : (b : Bool) → true ≡ (not b || true) && true
+        both true = refl
+        both false = refl
 
-    pub post-other : inShape k l q ≡ true → own ≡ false → (r : Bool) → r ≡ itemsWithin 1 m (contents k l q) → r ≡ rightPost k l q m own
-    unfolding rightPost
-    post-other e o r f = rw (e, o) f
+    -- one that has some
+    module _ (some : 1 ≤ items k l q) where
+      pub post-own : own ≡ true → false ≡ rightPost k l q m own
+      unfolding rightPost
+      post-own o =
+          let n : eqb (length (contents k l q)) 0 ≡ false = ne-eqb (length (contents k l q)) 0 (λ (z : length (contents k l q) ≡ 0). omega (arith, length-run k l q 0 (items k l q))) in
+          rw (o, n) (sym (and-false (inShape k l q)))
+
+      pub post-other : own ≡ false → (r : Bool) → r ≡ inShape k l q && itemsWithin 1 m (contents k l q) → r ≡ rightPost k l q m own
+      unfolding rightPost
+      post-other o r f = rw o f
 
 -- ---- a task queue
 module _ (k : Kind) (l : List ℕ) (q m task : ℕ) where
@@ -83,48 +92,66 @@ module _ (k : Kind) (l : List ℕ) (q m task : ℕ) where
   unfolding rightSeat
   seat-shape e = rw e
 
-  module _ (e : inShape k l q ≡ true) where
-    pub seat-empty : items k l q ≡ 0 → eqb (getD l (q + gapWord) 0) 0 ≡ rightSeat k l q m task
-    unfolding rightSeat run gapFlag
-    seat-empty z =
-        let n : (contents k l q) ≡ [] = ap (run k l q 0) z ∙ none in
-        rw (e, n, all-none (λ b. leb b m)) (rest (not (eqb task 0)) (getD l (q + gapWord) 0))
-      where
-        none : run k l q 0 0 ≡ []
-        none = refl
+  -- one with no items
+  pub seat-flagged : items k l q ≡ 0 → (getD l (q + gapWord) 0 ≡ 0 → ⊥) → false ≡ rightSeat k l q m task
+  unfolding rightSeat run gapFlag
+  seat-flagged z g =
+      split (inShape k l q)
+      (λ e. rw (e, z, all-none (λ b. leb b m), ne-eqb (getD l (q + gapWord) 0) 0 g) (rest (not (eqb task 0))))
+      (λ e. rw e)
+    where
+      rest : (b : Bool) → false ≡ (b || true) && false
+      rest true = refl
+      rest false = refl
 
-        rest : (b : Bool) (g : ℕ) → eqb g 0 ≡ (b || true) && eqb g (gapFlag [])
-        rest true g = refl
-        rest false g = refl
+  pub seat-empty : items k l q ≡ 0 → getD l (q + gapWord) 0 ≡ 0 → (r : Bool) → r ≡ inShape k l q → r ≡ rightSeat k l q m task
+  unfolding rightSeat run gapFlag
+  seat-empty z g r f =
+      f ∙ split (inShape k l q)
+      (λ e. rw (e, z, all-none (λ b. leb b m), g) (rest (not (eqb task 0))))
+      (λ e. rw e)
+    where
+      rest : (b : Bool) → true ≡ (b || true) && true
+      rest true = refl
+      rest false = refl
 
-    module _ (n : items k l q ≡ 0 → ⊥) where
-      some : eqb (length (contents k l q)) 0 ≡ false
-      some = ne-eqb _ 0 (λ z. n (sym long ∙ z))
+  -- one that has some
+  module _ (n : 1 ≤ items k l q) where
+    some : eqb (length (contents k l q)) 0 ≡ false
+    some = ne-eqb (length (contents k l q)) 0 (λ (z : length (contents k l q) ≡ 0). omega (arith, long))
 
-      pub seat-unbound : task ≡ 0 → false ≡ rightSeat k l q m task
-      unfolding rightSeat
-      seat-unbound z = rw (e, some, eq-eqb task 0 z)
+    pub seat-unbound : task ≡ 0 → false ≡ rightSeat k l q m task
+    unfolding rightSeat
+    seat-unbound z = rw (some, eq-eqb task 0 z) (sym (and-false (inShape k l q)))
 
-      first : getD (contents k l q) 0 0 ≡ itemAt k l q 0
-      unfolding run
-      first = let d : items k l q ≡ suc (items k l q - 1) = omega arith in ap (λ (n : ℕ). getD (run k l q 0 n) 0 0) d
+    first : getD (contents k l q) 0 0 ≡ itemAt k l q 0
+    unfolding run
+    first = let d : items k l q ≡ suc (items k l q - 1) = omega arith in ap (λ (n : ℕ). getD (run k l q 0 n) 0 0) d
+
+    same-within : itemsWithin 0 m (contents k l q) ≡ all (λ b. leb b m) (contents k l q)
+    unfolding itemsWithin
+    same-within = all-same (λ b. leb 0 b && leb b m) (λ b. leb b m) (contents k l q) (λ b. rw (leb·zero b))
+
+    pub seat-high : inShape k l q && itemsWithin 0 m (contents k l q) ≡ false → false ≡ rightSeat k l q m task
+    unfolding rightSeat
+    seat-high f =
+        split (inShape k l q)
+        (λ e. let g : itemsWithin 0 m (contents k l q) ≡ false = rw e at f in
+        rw (e, sym same-within ∙ g) (no-second (not (eqb task 0) || eqb (length (contents k l q)) 0) false refl))
+        (λ e. rw e)
+
+    module _ (e : inShape k l q && itemsWithin 0 m (contents k l q) ≡ true) where
+      shaped : inShape k l q ≡ true
+      shaped = and-true (inShape k l q) (itemsWithin 0 m (contents k l q)) e .0
 
       pub seat-gap : itemAt k l q 0 ≡ 0 → false ≡ rightSeat k l q m task
       unfolding rightSeat
       seat-gap z =
           let y : getD (contents k l q) 0 0 ≡ 0 = first ∙ z in
-          rw (e, some, y) (no-second (not (eqb task 0) || false) _ (sym (no-second (all (λ b. leb b m) (contents k l q)) false refl)))
+          rw (shaped, some, y) (no-second (not (eqb task 0) || false) _ (sym (no-second (all (λ b. leb b m) (contents k l q)) false refl)))
 
-      same-within : itemsWithin 0 m (contents k l q) ≡ all (λ b. leb b m) (contents k l q)
-      unfolding itemsWithin
-      same-within = all-same (λ b. leb 0 b && leb b m) (λ b. leb b m) (contents k l q) (λ b. rw (leb·zero b))
-
-      pub seat-high : itemsWithin 0 m (contents k l q) ≡ false → false ≡ rightSeat k l q m task
+      pub seat-flag : (task ≡ 0 → ⊥) → (itemAt k l q 0 ≡ 0 → ⊥) → (r : Bool) → r ≡ eqb (getD l (q + gapWord) 0) (gapFlag (contents k l q)) → r ≡ rightSeat k l q m task
       unfolding rightSeat
-      seat-high f = rw (e, sym same-within ∙ f) (no-second (not (eqb task 0) || eqb (length (contents k l q)) 0) false refl)
-
-      pub seat-flag : (task ≡ 0 → ⊥) → (itemAt k l q 0 ≡ 0 → ⊥) → itemsWithin 0 m (contents k l q) ≡ true
-          → (r : Bool) → r ≡ eqb (getD l (q + gapWord) 0) (gapFlag (contents k l q)) → r ≡ rightSeat k l q m task
-      unfolding rightSeat
-      seat-flag t i f r z =
-          rw (e, ne-eqb task 0 t, sym same-within ∙ f, some, ne-eqb (getD (contents k l q) 0 0) 0 (λ y. i (sym first ∙ y))) z
+      seat-flag t i r z =
+          let f = and-true (inShape k l q) (itemsWithin 0 m (contents k l q)) e .1 in
+          rw (shaped, ne-eqb task 0 t, sym same-within ∙ f, some, ne-eqb (getD (contents k l q) 0 0) 0 (λ y. i (sym first ∙ y))) z

@@ -11,7 +11,7 @@ use Rattle.queues.specs.declared.Kind.{Kind}
 use Rattle.queues.specs.Queue.{sendKind, ackKind, taskKind, items, itemAt, contents}
 use Rattle.queues.specs.Items.{gapFlag}
 use Rattle.sound.specs.Queues.{inShape}
-use Rattle.shapes.specs.Seats.{seatAt}
+use Rattle.tasks.specs.Seat.{seatAt}
 
 -- the words from a on, before e, are 0
 unfoldable pub zeroes : List ℕ → ℕ → ℕ → Bool

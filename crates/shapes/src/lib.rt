@@ -1,16 +1,13 @@
-// The third rule of a sound memory: the queues of a node, and which task each task queue is bound to.
+// The third rule of a sound memory: the queues of a node.
 use queues::Kind;
 use settings::Settings;
-use tasks::Seat;
 ghost use mathlib.Core.Path.{_≡_};
-ghost use mathlib.Core.Bool.{true};
+ghost use mathlib.Core.Bool.{_&&_};
 ghost use Prim.Native.Nat.{_<_, _≤_};
-ghost use lib.ListN.{length, replicate};
+ghost use lib.ListN.{length};
 ghost use Rattle.layout.specs.Asked.{Stretch};
-ghost use Rattle.tasks.specs.Table.{rightTable};
 ghost use Rattle.queues.specs.Queue.{Queue, Placed, start, items, contents};
 ghost use Rattle.sound.specs.Queues.{inShape};
-ghost use Rattle.shapes.specs.Seats.{putOn, Seats};
 ghost use Rattle.shapes.specs.Shape.{
   zeroes,
   clearOutside,
@@ -23,46 +20,18 @@ ghost use Rattle.shapes.specs.Shape.{
   rightStretch,
 };
 
-// Puts a task on its seat, if it has one.
-fn put_on(seats: &mut [u32], table: &[u32], task: u32)
-    requires { ⌜ length (now seats) ≡ 384 ⌝ }
-    requires { ⌜ rightTable (now table) ≡ true ⌝ }
-    ensures { λ _. ⌜ now (seats .exit) ≡ putOn (now (table .entry)) (now (seats .entry)) task ⌝ }
-{
-    let seat = tasks::seat_of(table, task);
-    let Seat::At(node, queue) = seat else {
-        return;
-    };
-    let at = node as usize * 64 + queue as usize;
-    seats[at] = task;
-}
-
-// The task of each seat, by one pass over the 256 ids.
-pub fn seat_tasks(seats: &mut [u32], table: &[u32])
-    requires { ⌜ now seats ≡ replicate 384 0 ⌝ }
-    requires { ⌜ rightTable (now table) ≡ true ⌝ }
-    ensures { λ _. ⌜ Seats (now (table .entry)) (now (seats .exit)) ⌝ }
-{
-    let mut id: u32 = 0;
-    while id < 256 {
-        put_on(seats, table, id);
-        id += 1;
-    }
-}
-
-// Whether the words from a on, before e, are 0.
+// Whether the words from a on, before e, are 0. All are joined and then looked at, so that the compiler may take many at a time.
 fn are_zero(node: &[u32], a: usize, e: usize) -> bool
     requires { ⌜ (a ≤ e) × (e ≤ length (now node)) ⌝ }
     ensures { λ r. ⌜ r ≡ zeroes (now (node .entry)) a e ⌝ }
 {
+    let mut bits: u32 = 0;
     let mut i = a;
     while i < e {
-        if node[i] != 0 {
-            return false;
-        }
+        bits = bits | node[i];
         i += 1;
     }
-    true
+    bits == 0
 }
 
 // Whether the slots outside the items are 0, as they stand: behind the last item and before the first, or between them where the items run round.
@@ -119,42 +88,86 @@ fn are_within(node: &[u32], k: Kind, q: usize, least: usize, most: usize) -> boo
     true
 }
 
-// Whether a send or acknowledge queue is right; `own`: it is the node's queue to itself.
+// Whether a queue with no items is in shape.
+fn is_right_empty(node: &[u32], k: Kind, q: usize) -> bool
+    requires { ⌜ Placed k (now node) q ⌝ }
+    requires { ⌜ items k (now node) q ≡ 0 ⌝ }
+    ensures { λ r. ⌜ r ≡ inShape k (now (node .entry)) q ⌝ }
+{
+    let first = node[q] as usize;
+    if k.slots <= first {
+        return false;
+    }
+    let base = q + k.head;
+    are_zero(node, base, base + k.slots)
+}
+
+// Whether a queue is in shape and its items lie between the two.
+fn is_filled(node: &[u32], k: Kind, q: usize, least: usize, most: usize) -> bool
+    requires { ⌜ Placed k (now node) q ⌝ }
+    ensures { λ r. ⌜ r ≡ (inShape k (now (node .entry)) q && itemsWithin least most (contents k (now (node .entry)) q)) ⌝ }
+{
+    if !is_in_shape(node, k, q) {
+        return false;
+    }
+    are_within(node, k, q, least, most)
+}
+
+// Whether a send or acknowledge queue that has items is right; `own`: it is the node's queue to itself.
+fn is_filled_post(node: &[u32], k: Kind, q: usize, m: usize, own: bool) -> bool
+    requires { ⌜ Placed k (now node) q ⌝ }
+    requires { ⌜ 1 ≤ items k (now node) q ⌝ }
+    ensures { λ r. ⌜ r ≡ rightPost k (now (node .entry)) q m own ⌝ }
+{
+    if own {
+        return false;
+    }
+    is_filled(node, k, q, 1, m)
+}
+
+// The same of any send or acknowledge queue: most have no items, and that is looked at first.
 fn is_right_post(node: &[u32], k: Kind, q: usize, m: usize, own: bool) -> bool
     requires { ⌜ Placed k (now node) q ⌝ }
     ensures { λ r. ⌜ r ≡ rightPost k (now (node .entry)) q m own ⌝ }
 {
-    if !is_in_shape(node, k, q) {
-        return false;
+    if node[q + 1] == 0 {
+        return is_right_empty(node, k, q);
     }
-    if own {
-        return queues::items_of(node, k, q) == 0;
-    }
-    are_within(node, k, q, 1, m)
+    is_filled_post(node, k, q, m, own)
 }
 
-// Whether a task queue is right; `task`: the task that it is bound to, 0 for none.
-fn is_right_seat(node: &[u32], k: Kind, q: usize, m: usize, task: u32) -> bool
+// Whether a task queue that has items is right; `task`: the task that it is bound to, 0 for none.
+fn is_filled_seat(node: &[u32], k: Kind, q: usize, m: usize, task: u32) -> bool
     requires { ⌜ Placed k (now node) q ⌝ }
     requires { ⌜ 3 ≤ k .head ⌝ }
+    requires { ⌜ 1 ≤ items k (now node) q ⌝ }
     ensures { λ r. ⌜ r ≡ rightSeat k (now (node .entry)) q m task ⌝ }
 {
-    if !is_in_shape(node, k, q) {
+    if task == 0 {
         return false;
     }
-    if queues::items_of(node, k, q) == 0 {
-        return node[q + 2] == 0;
-    }
-    if task == 0 {
+    if !is_filled(node, k, q, 0, m) {
         return false;
     }
     if queues::item(node, k, q, 0) == 0 {
         return false;
     }
-    if !are_within(node, k, q, 0, m) {
-        return false;
-    }
     node[q + 2] == taking::gap_flag(node, k, q)
+}
+
+// The same of any task queue: most have no items, and that is looked at first.
+fn is_right_seat(node: &[u32], k: Kind, q: usize, m: usize, task: u32) -> bool
+    requires { ⌜ Placed k (now node) q ⌝ }
+    requires { ⌜ 3 ≤ k .head ⌝ }
+    ensures { λ r. ⌜ r ≡ rightSeat k (now (node .entry)) q m task ⌝ }
+{
+    if node[q + 1] == 0 {
+        if node[q + 2] != 0 {
+            return false;
+        }
+        return is_right_empty(node, k, q);
+    }
+    is_filled_seat(node, k, q, m, task)
 }
 
 // Whether the six send queues of node i are right.

@@ -140,11 +140,10 @@ fn is_right_memory(memory: &[u32], s: Settings) -> bool
     requires { ⌜ Sized s (now memory) ⌝ }
     ensures { λ r. ⌜ r ≡ (rightTable (tableIn (now (memory .entry))) && seatedRight s (now (memory .entry))) ⌝ }
 {
-    if !tasks::is_right(&memory[24..536]) {
+    let mut seats = [0u32; 384];
+    if !tasks::seat_tasks(&memory[24..536], &mut seats) {
         return false;
     }
-    let mut seats = [0u32; 384];
-    shapes::seat_tasks(&mut seats, &memory[24..536]);
     is_right_seated(memory, s, &seats)
 }
 

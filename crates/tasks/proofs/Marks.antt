@@ -1,20 +1,21 @@
--- The marks of the test are counts: the mark of a seat is how many of the ids so far sit there. Assumes nothing.
-use mathlib.Core.Path.{_≡_, refl, sym, _∙_}
-use mathlib.Core.Bool.{Bool, true, false, cond, _&&_, _||_, not}
+-- The row of seats as the test fills it: a seat is free while none of the ids so far sits there. Assumes nothing.
+use mathlib.Core.Path.{_≡_, refl, sym, ap, _∙_}
+use mathlib.Core.Bool.{Bool, true, false, cond, _&&_, _||_, not, false≢true}
 use mathlib.Core.List.{List}
 use Prim.Native.Nat.{ℕ, zero, suc, _+_, _*_, _≤_, _<_}
 use native.Mathlib.Numerals.{add-one}
 use native.Mathlib.Omega.{arith}
-use lib.Dec.{eqb, leb}
+use lib.Dec.{eqb, leb, ltb}
 use lib.ListN.{length, getD, set, replicate, getD-replicate, length-set}
 use lib.Seq.{getD-set-same, getD-set-other}
-use borrow.Author.Tests.{eq-eqb, eqb-true, le-leb, lt-leb, leb-true}
+use borrow.Author.Tests.{eq-eqb, eqb-true, le-leb, lt-leb, leb-true, lt-ltb}
 use Rattle.words.specs.Words.{every}
 use Rattle.words.specs.Count.{hit, sum}
 use Rattle.words.proofs.Lists.{split, same?, and-true, and-join, and-false, every-all, every-not}
 use Rattle.words.proofs.Count.{hit-self, hit-other, sum-le}
 use Rattle.layout.specs.Places.{taskIds}
-use Rattle.tasks.specs.Table.{nodeOf, queueOf, holdsNone, hasSeat, shareSeat, seated, apart}
+use Rattle.tasks.specs.Table.{nodeOf, queueOf, holdsNone, isBound, hasSeat, shareSeat, seated, apart}
+use Rattle.tasks.specs.Seat.{putOn, seatRow}
 
 -- a sum that is not 0 has a part that is not
 pub sum-some : (n : ℕ) (f : ℕ → ℕ) → 1 ≤ sum n f → (i : ℕ) × ((i < n) × (1 ≤ f i))
@@ -41,36 +42,45 @@ module _ (t : List ℕ) where
   abbrev pub fine : ℕ → Bool
   fine id = holdsNone t id || hasSeat t id
 
-  pub record Good (n : ℕ) (marks : List ℕ) : Type 0 where
-    pub size : length marks ≡ 384
+  pub record Good (n : ℕ) (row : List ℕ) : Type 0 where
+    pub size : length row ≡ 384
     pub fits : (i : ℕ) → i < n → fine i ≡ true
     pub lone : (j : ℕ) → j < n → alone j ≡ true
-    pub marked : (k : ℕ) → k < 384 → getD marks k 0 ≡ sum n (sits k)
+    pub is : row ≡ seatRow t n
+    pub free : (k : ℕ) → k < 384 → getD row k 0 ≡ 0 → sum n (sits k) ≡ 0
+    pub taken : (k : ℕ) → k < 384 → (getD row k 0 ≡ 0 → ⊥) → 1 ≤ sum n (sits k)
 
-  pub good-start : Good 0 (replicate 384 0)
-  unfolding sum
-  good-start =
+  pub blank-size : (row : List ℕ) → row ≡ replicate 384 0 → length row ≡ 384
+  blank-size row e = rw e
+
+  pub good-start : (row : List ℕ) → row ≡ replicate 384 0 → Good 0 row
+  unfolding sum seatRow
+  good-start row e =
       record {
-        size = refl;
+        size = rw e;
         fits = λ i h. absurd (omega arith);
         lone = λ j h. absurd (omega arith);
-        marked = λ k h. getD-replicate 384 k 0 0 h;
+        is = e;
+        free = λ k h z. refl;
+        taken = λ k h z. absurd (z (rw e (getD-replicate 384 k 0 0 h)));
       }
 
   -- one more of what holds below n
   more-below : (P : ℕ → Type 0) (n : ℕ) → ((i : ℕ) → i < n → P i) → P n → (i : ℕ) → i < n + 1 → P i
   more-below P n f p i h = same? i n (λ q e. rw q p) (λ q e. f i (omega arith))
 
-  module _ (n : ℕ) (marks : List ℕ) (g : Good n marks) where
+  module _ (n : ℕ) (row : List ℕ) (g : Good n row) where
     -- an id that is unbound
-    pub good-none : holdsNone t n ≡ true → Good (n + 1) marks
-    unfolding sum
+    pub good-none : holdsNone t n ≡ true → Good (n + 1) row
+    unfolding sum seatRow putOn isBound
     good-none e =
         record {
           size = g .size;
           fits = more-below (λ i. fine i ≡ true) n (g .fits) (rw e);
           lone = more-below (λ j. alone j ≡ true) n (g .lone) (every-all _ n (λ i h. rw e (or-true (holdsNone t i))));
-          marked = λ k h. g .marked k h ∙ rw (add-one n) (rw e (omega arith));
+          is = g .is ∙ rw (add-one n) (rw (e, and-false (ltb n taskIds)));
+          free = λ k h z. rw (add-one n) (rw e (omega (arith, g .free k h z)));
+          taken = λ k h z. rw (add-one n) (rw e (omega (arith, g .taken k h z)));
         }
       where
         or-true : (b : Bool) → b || true ≡ true
@@ -113,32 +123,38 @@ module _ (t : List ℕ) where
         unfolding hasSeat
         in-seat = and-join (leb (nodeOf t n) 5) (leb (queueOf t n) 63) (le-leb _ _ a) (le-leb _ _ b)
 
-        -- an id that sits where nobody does
-        pub good-seat : getD marks (seat n) 0 ≡ 0 → Good (n + 1) (set marks (seat n) 1)
-        unfolding sum
-        good-seat z =
+        -- an id that sits where nobody does; it is not 0, which is unbound
+        pub good-seat : n < taskIds → holdsNone t 0 ≡ true → getD row (seat n) 0 ≡ 0 → Good (n + 1) (set row (seat n) n)
+        unfolding sum seatRow putOn isBound
+        good-seat low o z =
             let l = g .size in
-            let m : sum n (sits (seat n)) ≡ 0 = sym (g .marked (seat n) (omega arith)) ∙ z in
+            let m : sum n (sits (seat n)) ≡ 0 = g .free (seat n) (omega arith) z in
+            let p : n ≡ 0 → ⊥ = λ (q : n ≡ 0). false≢true (sym e ∙ rw q o) in
             record {
               size = rw length-set l;
               fits = more-below (λ i. fine i ≡ true) n (g .fits) (rw (e, in-seat));
               lone = more-below (λ j. alone j ≡ true) n (g .lone) (free-alone m);
-              marked = λ k h. rw (add-one n)
+              is = rw (add-one n) (rw (e, lt-ltb n taskIds low) (ap (λ (r : List ℕ). set r (seat n) n) (g .is)));
+              free = λ k h y. rw (add-one n)
                   (rw e (same? k (seat n)
-                  (λ q f. rw q (getD-set-same marks (seat n) 1 0 (omega arith) ∙ omega (arith, hit-self (seat n))))
-                  (λ q f. getD-set-other marks (seat n) k 1 0 q ∙ g .marked k h ∙ omega (arith, hit-other k (seat n) q))));
+                  (λ q f. absurd (p (sym (getD-set-same row (seat n) n 0 (omega arith)) ∙ rw q at y)))
+                  (λ q f. omega (arith, hit-other k (seat n) q, g .free k h (sym (getD-set-other row (seat n) k n 0 q) ∙ y)))));
+              taken = λ k h y. rw (add-one n)
+                  (rw e (same? k (seat n)
+                  (λ q f. rw q (omega (arith, hit-self (seat n))))
+                  (λ q f. omega (arith, g .taken k h (λ x. y (getD-set-other row (seat n) k n 0 q ∙ x))))));
             }
 
         -- an id that sits where another does
-        pub bad-seat : n < taskIds → (getD marks (seat n) 0 ≡ 0 → ⊥) → false ≡ seated t && apart t
+        pub bad-seat : n < taskIds → (getD row (seat n) 0 ≡ 0 → ⊥) → false ≡ seated t && apart t
         unfolding apart
         bad-seat l z =
-            let r = sum-some n (sits (seat n)) (omega (arith, g .marked (seat n) (omega arith))) in
+            let r = sum-some n (sits (seat n)) (g .taken (seat n) (omega arith) z) in
             let i : ℕ = r .0 in
-            sym (rw (every-not alone taskIds n l (every-not _ n i (r .1 .0) (taken i (r .1 .0) (r .1 .1)))) (and-false (seated t)))
+            sym (rw (every-not alone taskIds n l (every-not _ n i (r .1 .0) (shares i (r .1 .0) (r .1 .1)))) (and-false (seated t)))
           where
-            taken : (i : ℕ) → i < n → 1 ≤ sits (seat n) i → holdsNone t i || (holdsNone t n || not (shareSeat t i n)) ≡ false
-            taken i h k =
+            shares : (i : ℕ) → i < n → 1 ≤ sits (seat n) i → holdsNone t i || (holdsNone t n || not (shareSeat t i n)) ≡ false
+            shares i h k =
                 split (holdsNone t i)
                 (λ f. absurd (let d : 1 ≤ 0 = rw f at k in omega arith))
                 (λ f. let d : 1 ≤ hit (seat n) (seat i) = rw f at k in
@@ -160,6 +176,6 @@ module _ (t : List ℕ) where
   unfolding hasSeat
   bad-queue n h = rw (lt-leb _ _ h) (and-false (leb (nodeOf t n) 5))
 
-  pub good-end : (marks : List ℕ) → Good taskIds marks → true ≡ seated t && apart t
+  pub good-end : (row : List ℕ) → Good taskIds row → true ≡ seated t && apart t
   unfolding seated apart
-  good-end marks g = sym (and-join _ _ (every-all fine taskIds (g .fits)) (every-all alone taskIds (g .lone)))
+  good-end row g = sym (and-join _ _ (every-all fine taskIds (g .fits)) (every-all alone taskIds (g .lone)))

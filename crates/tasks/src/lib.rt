@@ -1,11 +1,11 @@
 // The task table: the test of its rule, and where a task sits.
 ghost use mathlib.Core.Path.{_≡_};
 ghost use Prim.Native.Nat.{_<_};
-ghost use lib.ListN.{length};
+ghost use lib.ListN.{length, replicate};
 ghost use Rattle.layout.specs.Places.{tableWords, taskIds};
-ghost use mathlib.Core.Bool.{_&&_};
+ghost use mathlib.Core.Bool.{true, _&&_};
 ghost use Rattle.tasks.specs.Table.{holdsNone, seated, apart, rightTable};
-ghost use Rattle.tasks.specs.Seat.{seatOf};
+ghost use Rattle.tasks.specs.Seat.{seatOf, seatRow};
 
 // Whether the id holds 255, 0.
 fn holds_none(table: &[u32], id: usize) -> bool
@@ -19,12 +19,14 @@ fn holds_none(table: &[u32], id: usize) -> bool
     table[id * 2 + 1] == 0
 }
 
-// Whether each id below 256 is unbound or sits where no other does: a mark for each node and queue.
-fn are_apart(table: &[u32]) -> bool
+// Whether each id below 256 is unbound or sits where no other does; puts each on its seat.
+fn seat_each(table: &[u32], seats: &mut [u32]) -> bool
     requires { ⌜ length (now table) ≡ tableWords ⌝ }
-    ensures { λ r. ⌜ r ≡ seated (now (table .entry)) && apart (now (table .entry)) ⌝ }
+    requires { ⌜ holdsNone (now table) 0 ≡ true ⌝ }
+    requires { ⌜ now seats ≡ replicate 384 0 ⌝ }
+    ensures answer { λ r. ⌜ r ≡ seated (now (table .entry)) && apart (now (table .entry)) ⌝ }
+    ensures row { λ r. ⌜ (r ≡ true → now (seats .exit) ≡ seatRow (now (table .entry)) taskIds) ⌝ }
 {
-    let mut marks = [0u32; 384];
     let mut id = 0;
     while id < 256 {
         if !holds_none(table, id) {
@@ -37,14 +39,27 @@ fn are_apart(table: &[u32]) -> bool
                 return false;
             }
             let seat = node as usize * 64 + queue as usize;
-            if marks[seat] != 0 {
+            if seats[seat] != 0 {
                 return false;
             }
-            marks[seat] = 1;
+            seats[seat] = id as u32;
         }
         id += 1;
     }
     true
+}
+
+// The second rule of a sound memory, for a table of 512 words; puts each task on its seat where the rule holds.
+pub fn seat_tasks(table: &[u32], seats: &mut [u32]) -> bool
+    requires { ⌜ length (now table) ≡ tableWords ⌝ }
+    requires { ⌜ now seats ≡ replicate 384 0 ⌝ }
+    ensures answer { λ r. ⌜ r ≡ rightTable (now (table .entry)) ⌝ }
+    ensures row { λ r. ⌜ (r ≡ true → now (seats .exit) ≡ seatRow (now (table .entry)) taskIds) ⌝ }
+{
+    if !holds_none(table, 0) {
+        return false;
+    }
+    seat_each(table, seats)
 }
 
 // The second rule of a sound memory, for a table of any length and content.
@@ -54,10 +69,8 @@ pub fn is_right(table: &[u32]) -> bool
     if table.len() != 512 {
         return false;
     }
-    if !holds_none(table, 0) {
-        return false;
-    }
-    are_apart(table)
+    let mut seats = [0u32; 384];
+    seat_tasks(table, &mut seats)
 }
 
 // Where a task sits.

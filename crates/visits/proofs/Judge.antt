@@ -7,13 +7,16 @@ use Prim.Native.Nat.{ℕ, _+_, _-_, _≤_, _<_}
 use native.Mathlib.Omega.{arith}
 use lib.Dec.{eqb}
 use lib.ListN.{length, getD}
+use borrow.Author.Tests.{ne-eqb, lt-ltb, le-ltb}
 use Rattle.words.specs.Words.{all}
-use Rattle.words.proofs.Lists.{and-true, and-false, le-or-lt, told-no, told-yes}
+use Rattle.words.proofs.Lists.{split, same?, and-true, and-false, le-or-lt, told-no, told-yes}
 use Rattle.settings.specs.declared.Settings.{Settings}
+use Rattle.layout.specs.Places.{blockAt}
 use Rattle.layout.proofs.NodeRows.{by-head, by-send, by-ack, by-task}
-use Rattle.tasks.specs.Table.{nodeOf, isBound}
-use Rattle.tasks.specs.Seat.{seatOf}
-use Rattle.tasks.specs.declared.Seat.the-variants.{At, Unbound}
+use Rattle.letters.specs.Letter.{word}
+use Rattle.letters.proofs.Steps.{near-in, near-is}
+use Rattle.tasks.specs.Table.{holdsNone, nodeOf, isBound, rightTable}
+use Rattle.tasks.proofs.Laws.{seat-within}
 use Rattle.queues.specs.Items.{live}
 use Rattle.queues.proofs.Items.{live-cons}
 use Rattle.blocks.proofs.Moves.{length-list}
@@ -21,23 +24,36 @@ use Rattle.sound.specs.Queues.{taskOf}
 use Rattle.sound.specs.Letters.{chainFrom, endsWell, wordsFrom, rightLength, rightHeader, rightPlace, rightLetter}
 use Rattle.sound.specs.Blocks.{chains}
 use Rattle.sound.proofs.Tests.{and-assoc, and-yes, and-cross, all-append}
-use Rattle.shapes.specs.Seats.{seatAt}
-use Rattle.shapes.proofs.Bound.{bound-no, bound-at}
+use Rattle.tasks.specs.Seat.{seatAt}
 use Rattle.visits.specs.declared.Walk.{Walk}
 use Rattle.visits.specs.declared.Walk.the-variants.{Ended, Bad}
 use Rattle.visits.specs.Marks.{fresh, marked, endsWithin, clean, Visited}
-use Rattle.visits.specs.Letters.{isOn, isFromTo, isAtPlace, lettersRight, Judged, Placing}
+use Rattle.visits.specs.Letters.{isOn, isFromTo, isAtPlace, lettersRight, Judged, Placing, Readable}
 use Rattle.visits.proofs.Walks.{fresh-append, marked-append}
+use Rattle.visits.proofs.Read.{head-word, word-lies}
 
 -- ---- the header
 module _ (t : List ℕ) (task node : ℕ) where
-  pub on-no : seatOf t task ≡ Unbound → false ≡ isOn t task node
-  unfolding isOn
-  on-no e = rw (bound-no t task e)
+  pub on-over : 255 < task → false ≡ isOn t task node
+  unfolding isOn isBound
+  on-over h = rw (le-ltb task 256 h)
 
-  pub on-at : (n q : ℕ) → seatOf t task ≡ At n q → eqb n node ≡ isOn t task node
-  unfolding isOn
-  on-at n q e = let w = bound-at t task n q e in rw (w .0, w .1)
+  module _ (r : rightTable t ≡ true) where
+    -- a bound task's node is one of the six
+    pub on-far : 5 < node → false ≡ isOn t task node
+    unfolding isOn
+    on-far h =
+        split (isBound t task)
+        (λ e. let w = seat-within t task r e in rw (e, ne-eqb (nodeOf t task) node (λ z. omega arith)))
+        (λ e. rw e)
+
+    -- and a task with such a node is bound
+    pub on-is : task ≤ 255 → node ≤ 5 → eqb (nodeOf t task) node ≡ isOn t task node
+    unfolding isOn isBound holdsNone
+    on-is h g =
+        same? (nodeOf t task) node
+        (λ z e. rw (lt-ltb task 256 (omega arith), ne-eqb (nodeOf t task) 255 (λ y. omega arith), e))
+        (λ z e. rw e (sym (and-false (isBound t task))))
 
 module _ (seats : List ℕ) (i p from task to : ℕ) where
   pub at-hand : p < 1 → true ≡ isAtPlace seats i p from task to
@@ -78,23 +94,36 @@ module _ (s : Settings) (l t seats : List ℕ) (i p : ℕ) (g : Placing s l t se
   header-is = sym (and-assoc (isBound t (getD ws 0 0)) (eqb (nodeOf t (getD ws 0 0)) (getD ws 1 0)) _)
 
   -- the words a, b, c, d of a header
-  module _ (a b c d : ℕ) (ea : a ≡ getD ws 0 0) (eb : b ≡ getD ws 1 0) (ec : c ≡ getD ws 2 0) (ed : d ≡ getD ws 3 0) where
-    is-first : isOn t a b ≡ isOn t (getD ws 0 0) (getD ws 1 0)
-    is-first = ap₂ (isOn t) ea eb
+  pub header-told : (a b c d : ℕ) → a ≡ getD ws 0 0 → b ≡ getD ws 1 0 → c ≡ getD ws 2 0 → d ≡ getD ws 3 0 → (r : Bool)
+      → r ≡ isOn t a b && (isOn t c d && isAtPlace seats i p b c d) → r ≡ rightHeader t ws && rightPlace t i p ws
+  header-told a b c d ea eb ec ed r e =
+      e ∙ rw (ea, eb, ec, ed, header-is) (ap (λ (x : Bool). isOn t (getD ws 0 0) (getD ws 1 0) && (isOn t (getD ws 2 0) (getD ws 3 0) && x)) place-is
+      ∙ sym (and-assoc (isOn t (getD ws 0 0) (getD ws 1 0)) (isOn t (getD ws 2 0) (getD ws 3 0)) (rightPlace t i p ws)))
 
-    is-second : isOn t c d ≡ isOn t (getD ws 2 0) (getD ws 3 0)
-    is-second = ap₂ (isOn t) ec ed
+-- ---- the header of a letter whose length is right, by its words as they were read
+module _ (s : Settings) (l t seats : List ℕ) (i p : ℕ) (g : Placing s l t seats i p) (b : ℕ) (readable : Readable s l b) where
+  abbrev ws : List ℕ
+  ws = wordsFrom s l b
 
-    pub header-second : isOn t c d ≡ false → false ≡ rightHeader t ws && rightPlace t i p ws
-    header-second f =
-        rw (header-is, sym is-second ∙ f, and-false (isOn t (getD ws 0 0) (getD ws 1 0)))
+  pub header-read : (source from task to : ℕ) → source ≡ word s l b 0 → from ≡ word s l b 1 → task ≡ word s l b 2 → to ≡ word s l b 3 → (r : Bool)
+      → r ≡ isOn t source from && (isOn t task to && isAtPlace seats i p from task to) → r ≡ rightHeader t ws && rightPlace t i p ws
+  header-read source from task to e₀ e₁ e₂ e₃ r e =
+      let h : (k : ℕ) → k < 5 → word s l b k ≡ getD ws k 0 = head-word s l b readable in
+      header-told s l t seats i p g ws source from task to (e₀ ∙ h 0 (omega arith)) (e₁ ∙ h 1 (omega arith)) (e₂ ∙ h 2 (omega arith)) (e₃ ∙ h 3 (omega arith)) r e
 
-    pub header-yes : isOn t a b ≡ true → isOn t c d ≡ true → (r : Bool) → r ≡ isAtPlace seats i p b c d → r ≡ rightHeader t ws && rightPlace t i p ws
-    header-yes f g r e =
-        rw (header-is, sym is-first ∙ f, sym is-second ∙ g) (e ∙ rw (eb, ec, ed) place-is)
+  -- the first block carries them
+  module _ (wide : 5 < s .b) where
+    pub near-block : (1 ≤ b) × (b ≤ s .m)
+    near-block = near-in s l 0 b (word-lies s l b readable 0 (omega arith)) (omega arith)
 
-  pub header-first : (a b : ℕ) → a ≡ getD ws 0 0 → b ≡ getD ws 1 0 → isOn t a b ≡ false → false ≡ rightHeader t ws && rightPlace t i p ws
-  header-first a b ea eb f = rw (header-is, sym (ap₂ (isOn t) ea eb) ∙ f)
+    pub header-near : (at : ℕ) → at ≡ blockAt s b → (r : Bool)
+        → r ≡ isOn t (getD l at 0) (getD l (at + 1) 0) && (isOn t (getD l (at + 2) 0) (getD l (at + 3) 0) && isAtPlace seats i p (getD l (at + 1) 0) (getD l (at + 2) 0) (getD l (at + 3) 0))
+        → r ≡ rightHeader t ws && rightPlace t i p ws
+    header-near at q r e =
+        let n : (k : ℕ) → k < 5 → getD l (at + k) 0 ≡ word s l b k = λ k h. near-is s l k b (word-lies s l b readable k h) (omega arith) at q in
+        let z : at ≡ at + 0 = omega arith in
+        header-read (getD l at 0) (getD l (at + 1) 0) (getD l (at + 2) 0) (getD l (at + 3) 0)
+        (ap (λ (j : ℕ). getD l j 0) z ∙ n 0 (omega arith)) (n 1 (omega arith)) (n 2 (omega arith)) (n 3 (omega arith)) r e
 
 -- ---- letters joined
 module _ (s : Settings) (l t : List ℕ) (i p : ℕ) where

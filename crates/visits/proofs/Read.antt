@@ -1,18 +1,22 @@
 -- A chain that ends well, and what may be read of the letter in it. Assumes nothing.
 use mathlib.Core.Path.{_≡_, sym, ap, _∙_}
+use mathlib.Core.Logic.{⊎-elim}
 use mathlib.Core.Bool.{true, false}
 use mathlib.Core.List.{List}
 use Prim.Native.Nat.{ℕ, suc, _+_, _-_, _*_, _/_, _%_, _≤_, _<_}
-use native.Mathlib.Nat.{suc-mul, mul-le-mul-right, div-add-mod'}
+use native.Mathlib.Nat.{suc-mul, mul-le-mul, mul-le-mul-right, div-add-mod', div-lt-iff-lt-mul, div-mul-le-self}
 use native.Mathlib.Omega.{arith}
-use lib.Dec.{eqb, leb}
+use lib.Dec.{leb, ltb}
 use lib.ListN.{length, getD, List·getD-eq-default}
-use borrow.Author.Tests.{le-leb, lt-leb}
-use Rattle.words.proofs.Lists.{and-true, and-false}
+use borrow.Author.Tests.{eq-eqb, ne-eqb, le-leb, lt-leb, lt-ltb, le-ltb}
+use Rattle.words.proofs.Lists.{and-true, and-false, le-or-lt}
 use Rattle.settings.specs.declared.Settings.{Settings}
+use Rattle.settings.specs.Range.{InRange}
+use Rattle.layout.specs.Numbers.{headerWords, greatestLength}
 use Rattle.layout.specs.Asked.{Stretch}
 use Rattle.blocks.specs.Chain.{needs, chain, text, Within}
 use Rattle.blocks.proofs.Chains.{length-text}
+use Rattle.blocks.proofs.Moves.{length-list}
 use Rattle.blocks.proofs.Rows.{rows, within-in, text-rows, block-long}
 use Rattle.letters.specs.Letter.{word, letter}
 use Rattle.letters.specs.Asked.{Lies}
@@ -34,10 +38,41 @@ module _ (s : Settings) (l : List ℕ) where
         ap length (text-rows s (st .range) l c (λ x o. within-in (s .m) c x w o .0))
         ∙ length-text (s .b) (rows s l) c (λ x o. let i = within-in (s .m) c x w o in block-long s l st x (i .0) (i .1))
 
+-- ---- the blocks that words need, and the words that blocks carry
+module _ (s : Settings) (r : InRange s) (k n : ℕ) where
+  pub needs-within : k ≤ n * (s .b - 1) → needs s k ≤ n
+  unfolding needs
+  needs-within h =
+      let w = r .b .low in
+      let e : k + (s .b - 2) < suc n * (s .b - 1) = omega (arith, suc-mul n (s .b - 1)) in
+      let f : (k + (s .b - 2)) / (s .b - 1) < suc n = div-lt-iff-lt-mul {k = s .b - 1} {x = k + (s .b - 2)} {y = suc n} (omega arith) .1 e in
+      omega arith
+
+  few : n * (s .b - 1) < k → n < needs s k
+  few h = ⊎-elim (λ g. let e = mul-le-mul-right (s .b - 1) g in let f = needs-enough s r k in absurd (omega arith)) (λ g. g) (le-or-lt (needs s k) n)
+
+  not-more : n * (s .b - 1) < k + (s .b - 1) → n ≤ needs s k
+  not-more h =
+      ⊎-elim (λ g. g)
+      (λ g. let e = mul-le-mul-right (s .b - 1) g in let f = needs-enough s r k in absurd (omega (arith, suc-mul (needs s k) (s .b - 1))))
+      (le-or-lt n (needs s k))
+
+needs-tight : (s : Settings) → InRange s → (k : ℕ) → needs s k * (s .b - 1) < k + (s .b - 1)
+unfolding needs
+needs-tight s r k = let w = r .b .low in omega (arith, div-mul-le-self (k + (s .b - 2)) (s .b - 1))
+
 -- ---- a chain that was visited to its end
 module _ (s : Settings) (l : List ℕ) (b n : ℕ) (w : Whole s l b n) where
   whole : chain s l n b ≡ chainFrom s l b
   whole = ap (λ (k : ℕ). chain s l k b) (w .count) ∙ sym (list-chain s l (s .m) b)
+
+  pub carried-small : n * (s .b - 1) ≤ 65536
+  carried-small =
+      let c = w .count in
+      let r = w .stretch .range in
+      let k : n ≤ 1024 = omega (arith, c, length-list s l (s .m) b, r .m .high) in
+      let j : s .b - 1 ≤ 64 = omega (arith, r .b .high) in
+      omega (arith, mul-le-mul k j)
 
   -- too few blocks for a header: the length that is told is 0
   pub told-short : n < needs s 5 → false ≡ rightLength s l b
@@ -68,6 +103,36 @@ module _ (s : Settings) (l : List ℕ) (b n : ℕ) (w : Whole s l b n) where
         word-text s l (w .stretch) n b 4 (rw whole (ends-within s l b (w .ends))) (omega arith)
         ∙ ap (λ (c : List ℕ). getD (text s l c) 4 0) whole
 
+  -- by the words that the blocks carry
+  pub carried-head : 5 ≤ n * (s .b - 1) → needs s 5 ≤ n
+  carried-head h = needs-within s (w .stretch .range) 5 n h
+
+  pub carried-short : n * (s .b - 1) < 5 → false ≡ rightLength s l b
+  carried-short h = told-short (few s (w .stretch .range) 5 n h)
+
+  pub length-few : n * (s .b - 1) < toldLength s l b → false ≡ rightLength s l b
+  unfolding rightLength
+  length-few h =
+      let e : length (chainFrom s l b) ≡ needs s (toldLength s l b) → ⊥ = λ z. let f = few s (w .stretch .range) (toldLength s l b) n h in let c = w .count in omega arith in
+      rw (ne-eqb (length (chainFrom s l b)) (needs s (toldLength s l b)) e, and-false (leb (toldLength s l b) greatestLength), and-false (leb headerWords (toldLength s l b)))
+
+  pub length-fits : 5 ≤ toldLength s l b → toldLength s l b ≤ 1024 → toldLength s l b ≤ n * (s .b - 1)
+      → ltb (n * (s .b - 1)) (toldLength s l b + (s .b - 1)) ≡ rightLength s l b
+  unfolding rightLength
+  length-fits h g f =
+      let c = w .count in
+      let r = w .stretch .range in
+      rw (le-leb 5 (toldLength s l b) h, le-leb (toldLength s l b) 1024 g)
+      (⊎-elim
+      (λ k. le-ltb (n * (s .b - 1)) (toldLength s l b + (s .b - 1)) k
+      ∙ sym (ne-eqb (length (chainFrom s l b)) (needs s (toldLength s l b))
+      (λ z. let e : n * (s .b - 1) ≡ needs s (toldLength s l b) * (s .b - 1) = ap (λ (x : ℕ). x * (s .b - 1)) (c ∙ z) in
+      let y = needs-tight s r (toldLength s l b) in omega arith)))
+      (λ k. lt-ltb (n * (s .b - 1)) (toldLength s l b + (s .b - 1)) k
+      ∙ sym (eq-eqb (length (chainFrom s l b)) (needs s (toldLength s l b))
+      (let a = needs-within s r (toldLength s l b) n f in let d = not-more s r (toldLength s l b) n k in omega arith)))
+      (le-or-lt (toldLength s l b + (s .b - 1)) (n * (s .b - 1))))
+
   pub length-low : toldLength s l b < 5 → false ≡ rightLength s l b
   unfolding rightLength
   length-low h = rw (lt-leb 5 (toldLength s l b) h)
@@ -75,10 +140,6 @@ module _ (s : Settings) (l : List ℕ) (b n : ℕ) (w : Whole s l b n) where
   pub length-high : 1024 < toldLength s l b → false ≡ rightLength s l b
   unfolding rightLength
   length-high h = rw (lt-leb (toldLength s l b) 1024 h) (sym (and-false (leb 5 (toldLength s l b))))
-
-  pub length-is : (k : ℕ) → 5 ≤ toldLength s l b → toldLength s l b ≤ 1024 → k ≡ needs s (toldLength s l b) → eqb n k ≡ rightLength s l b
-  unfolding rightLength
-  length-is k h g e = rw (le-leb 5 (toldLength s l b) h, le-leb (toldLength s l b) 1024 g, e, w .count)
 
 -- ---- a letter whose length is right
 module _ (s : Settings) (l : List ℕ) (b : ℕ) (r : Readable s l b) where

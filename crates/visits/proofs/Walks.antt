@@ -1,21 +1,29 @@
 -- What each path of a visit decides, and marks of lists joined. Assumes nothing.
 use mathlib.Core.Path.{_≡_, refl, sym, ap, _∙_}
+use mathlib.Core.Logic.{⊎-elim}
 use mathlib.Core.Bool.{Bool, true, false, _&&_, false≢true}
 use mathlib.Core.List.{List, [], _∷_, _++_}
-use Prim.Native.Nat.{ℕ, _+_, _-_, _≤_, _<_}
+use Prim.Native.Nat.{ℕ, zero, suc, _+_, _-_, _*_, _≤_, _<_}
+use native.Mathlib.Nat.{mul-le-mul-right}
 use native.Mathlib.Omega.{arith}
 use lib.Dec.{eqb, leb}
 use lib.ListN.{length, getD, set, length-set}
-use borrow.Author.Tests.{ne-eqb, le-leb, lt-leb}
+use borrow.Author.Tests.{eq-eqb, ne-eqb, le-leb, lt-leb, eqb-true, leb-true}
 use Rattle.words.specs.Words.{all}
-use Rattle.words.proofs.Lists.{and-false}
+use Rattle.words.proofs.Lists.{and-true, and-false, split, le-or-lt, told-no, told-yes}
 use Rattle.settings.specs.declared.Settings.{Settings}
+use Rattle.layout.specs.Places.{blockAt, linkAt}
+use Rattle.layout.specs.Asked.{Stretch}
+use Rattle.layout.proofs.Fits.{block-fits, node-small}
+use Rattle.letters.proofs.Steps.{link-from}
 use Rattle.blocks.specs.Chain.{link, list, after}
 use Rattle.blocks.proofs.Steps.{list-step, list-none}
 use Rattle.sound.proofs.Tests.{and-assoc}
 use Rattle.visits.specs.declared.Walk.{Walk}
 use Rattle.visits.specs.declared.Walk.the-variants.{Ended, Bad}
-use Rattle.visits.specs.Marks.{fresh, marked, endsWithin, clean, Visited}
+use Rattle.visits.specs.declared.Stepped.{Stepped}
+use Rattle.visits.specs.declared.Stepped.the-variants.{On, Stuck}
+use Rattle.visits.specs.Marks.{fresh, marked, endsWithin, clean, Visited, Linked, stepsOn, stepped, steppedOn, toldBy, Walked}
 
 -- ---- lists joined
 pub fresh-append : (marks l m : List ℕ) → fresh marks (l ++ m) ≡ fresh marks l && fresh (marked marks l) m
@@ -85,3 +93,110 @@ module _ (s : Settings) (l : List ℕ) (n b : ℕ) (marks : List ℕ) where
             is = rw (clean-step, d) (w .is);
             marks = λ t. rw step (w .marks (sym clean-step ∙ t));
           }
+
+-- ---- a step, by its numbers
+module _ (words : List ℕ) (before width m : ℕ) where
+  pub step-fits : Linked words before width m → (b : ℕ) → b ≤ m → (before + b * width < length words) × (before + b * width ≤ 85274)
+  step-fits g b h =
+      let k : b * width ≤ m * width = mul-le-mul-right width h in
+      let x = g .inside in
+      let y = g .small in
+      (omega arith, omega arith)
+
+  module _ (marks : List ℕ) (b : ℕ) where
+    stuck : stepsOn m marks b ≡ false → (Stuck ≡ stepped words before width m marks b) × (marks ≡ steppedOn m marks b)
+    unfolding stepped steppedOn
+    stuck f = (rw f, rw f)
+
+    pub step-above : m < b → (Stuck ≡ stepped words before width m marks b) × (marks ≡ steppedOn m marks b)
+    unfolding stepsOn
+    step-above h = stuck (rw (lt-leb b m h))
+
+    pub step-marked : (getD marks b 0 ≡ 0 → ⊥) → (Stuck ≡ stepped words before width m marks b) × (marks ≡ steppedOn m marks b)
+    unfolding stepsOn
+    step-marked h = stuck (rw (ne-eqb (getD marks b 0) 0 h) (and-false (leb b m)))
+
+    pub step-on : b ≤ m → getD marks b 0 ≡ 0 → (On (getD words (before + b * width) 0) ≡ stepped words before width m marks b) × (set marks b 1 ≡ steppedOn m marks b)
+    unfolding stepped steppedOn stepsOn
+    step-on h z = (rw (le-leb b m h, eq-eqb (getD marks b 0) 0 z), rw (le-leb b m h, eq-eqb (getD marks b 0) 0 z))
+
+    -- what the answer of a step tells
+    module _ (r : Stepped) (new : List ℕ) (er : r ≡ stepped words before width m marks b) (en : new ≡ steppedOn m marks b) where
+      apart : (k : ℕ) → On k ≡ Stuck → ⊥
+      apart k z = let y : _≡_ {A = ℕ} 0 1 = cc in omega arith
+
+      pub was-stuck : r ≡ Stuck → (stepsOn m marks b ≡ false) × (new ≡ marks)
+      unfolding stepped steppedOn
+      was-stuck e =
+          let f : stepsOn m marks b ≡ false = told-no (stepsOn m marks b) (On (getD words (before + b * width) 0)) Stuck r er (apart _) e in
+          (f, en ∙ rw f)
+
+      pub was-on : (next : ℕ) → r ≡ On next → (b ≤ m) × (getD marks b 0 ≡ 0) × (next ≡ getD words (before + b * width) 0) × (new ≡ set marks b 1)
+      unfolding stepped steppedOn stepsOn
+      was-on next e =
+          let y = told-yes (stepsOn m marks b) (On (getD words (before + b * width) 0)) Stuck r er (On next) (apart next) e in
+          let a = and-true (leb b m) (eqb (getD marks b 0) 0) (y .0) in
+          (leb-true b m (a .0), eqb-true (getD marks b 0) 0 (a .1), cc, en ∙ rw (y .0))
+
+-- ---- a walk by numbers
+pub told-bad : (r : ℕ) → r ≡ 0 → toldBy r ≡ Bad
+unfolding toldBy
+told-bad r e = rw e
+
+pub told-ended : (r : ℕ) → (r ≡ 0 → ⊥) → toldBy r ≡ Ended (r - 1)
+unfolding toldBy
+told-ended zero g = absurd (g refl)
+told-ended (suc k) g = ap Ended (omega arith)
+
+module _ (words : List ℕ) (before width m n b : ℕ) (marks : List ℕ) (low : 1 ≤ b) where
+  some : b ≡ 0 → ⊥
+  some z = omega arith
+
+  pub follow-none : n ≡ 0 → Walked words before width m n b marks 0 marks
+  unfolding toldBy
+  follow-none z = λ s st eb ew em. visit-none s words n b marks marks some z
+
+  module _ (h : n ≡ 0 → ⊥) where
+    pub follow-stuck : (new : List ℕ) → stepsOn m marks b ≡ false → Walked words before width m n b marks 0 new
+    unfolding toldBy stepsOn
+    follow-stuck new f = λ s st eb ew em.
+        split (leb b m)
+        (λ t. visit-marked s words n b marks some h new
+        (λ z. false≢true (sym f ∙ rw (t, eq-eqb (getD marks b 0) 0 z))))
+        (λ t. visit-above s words n b marks some h new (high m s em t))
+      where
+        high : (m : ℕ) (s : Settings) → m ≡ s .m → leb b m ≡ false → s .m < b
+        high m s e t = ⊎-elim (λ k. absurd (false≢true (sym t ∙ le-leb b m (omega arith)))) (λ k. k) (le-or-lt b (s .m))
+
+    -- a block stepped on
+    module _ (next : ℕ) (new : List ℕ) (w : (b ≤ m) × (getD marks b 0 ≡ 0) × (next ≡ getD words (before + b * width) 0) × (new ≡ set marks b 1)) where
+      goes : (s : Settings) → Stretch s words → before ≡ blockAt s 1 - 1 → width ≡ s .b → next ≡ link s words b
+      goes s st eb ew =
+          let r = st .range .b .low in
+          let e : s .b - 1 + 1 ≡ s .b = omega arith in
+          let f : before + b * width ≡ linkAt s b = rw (eb, ew) (ap (λ (k : ℕ). blockAt s 1 - 1 + b * k) (sym e) ∙ link-from s (st .range) b low) in
+          w .2 ∙ ap (λ (i : ℕ). getD words i 0) f
+
+      pub follow-next : (r : ℕ) (left : List ℕ) → Walked words before width m (n - 1) next new r left → Walked words before width m n b marks r left
+      follow-next r left v = λ s st eb ew em.
+          visit-step s words n b marks some h (omega arith) (w .1) next (toldBy r) left (goes s st eb ew) (rw (w .3) at (v s st eb ew em))
+
+      pub follow-last : next ≡ 0 → Walked words before width m n b marks n new
+      follow-last z = follow-next n new (λ s st eb ew em. rw (told-ended n h) (visit-end s words (n - 1) next new z))
+
+-- ---- a visit by a walk
+module _ (s : Settings) (l : List ℕ) (st : Stretch s l) (before : ℕ) (e : before ≡ blockAt s 1 - 1) where
+  pub linked : Linked l before (s .b) (s .m)
+  linked =
+      let r = st .range in
+      let z = st .long in
+      let low = r .m .low in
+      let w = r .b .low in
+      let d : s .b - 1 + 1 ≡ s .b = omega arith in
+      let f : before + s .m * s .b ≡ linkAt s (s .m) = rw e (ap (λ (k : ℕ). blockAt s 1 - 1 + s .m * k) (sym d) ∙ link-from s r (s .m) low) in
+      let fits = block-fits s (s .m) low (omega arith) in
+      let small = node-small s r in
+      record { inside = omega arith; small = omega arith }
+
+  pub visited-as : (n b : ℕ) (old : List ℕ) (r : ℕ) (new : List ℕ) (w : Walk) → toldBy r ≡ w → Walked l before (s .b) (s .m) n b old r new → Visited s l n b old w new
+  visited-as n b old r new w q v = rw q at (v s st e refl refl)

@@ -13,7 +13,8 @@ use Rattle.layout.specs.Asked.{Stretch}
 use Rattle.tasks.specs.Table.{nodeOf, isBound, rightTable}
 use Rattle.sound.specs.Letters.{chainFrom, endsWell, rightLength, rightLetter}
 use Rattle.sound.specs.Blocks.{chains}
-use Rattle.shapes.specs.Seats.{seatAt, Seats}
+use Rattle.tasks.specs.Seat.{seatAt}
+use Rattle.shapes.specs.Seats.{Seats}
 use Rattle.visits.specs.Marks.{fresh}
 
 -- a chain that was visited to its end, and how many blocks it has

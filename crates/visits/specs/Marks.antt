@@ -1,15 +1,19 @@
--- Marks: a row of words that shows which blocks were visited, and what a visit of a chain answers.
+-- Marks: a row of bytes that shows which blocks were visited, and what a visit of a chain answers.
 use mathlib.Core.Path.{_≡_}
 use mathlib.Core.Bool.{Bool, true, _&&_, cond}
 use mathlib.Core.List.{List, [], _∷_}
-use Prim.Native.Nat.{ℕ, _-_}
+use Prim.Native.Nat.{ℕ, zero, suc, _+_, _-_, _*_, _≤_, _<_}
 use lib.Dec.{eqb, leb}
 use lib.ListN.{length, getD, set}
 use Rattle.words.specs.Words.{all}
 use Rattle.settings.specs.declared.Settings.{Settings}
+use Rattle.layout.specs.Places.{blockAt}
+use Rattle.layout.specs.Asked.{Stretch}
 use Rattle.blocks.specs.Chain.{list, after}
 use Rattle.visits.specs.declared.Walk.{Walk}
 use Rattle.visits.specs.declared.Walk.the-variants.{Ended, Bad}
+use Rattle.visits.specs.declared.Stepped.{Stepped}
+use Rattle.visits.specs.declared.Stepped.the-variants.{On, Stuck}
 
 -- none of the blocks has a mark, each marked before the next is looked at
 unfoldable pub fresh : List ℕ → List ℕ → Bool
@@ -35,3 +39,28 @@ module _ (s : Settings) (stretch : List ℕ) (n b : ℕ) where
 pub record Visited (s : Settings) (stretch : List ℕ) (n b : ℕ) (old : List ℕ) (r : Walk) (new : List ℕ) : Type 0 where
   pub is : r ≡ cond (clean s stretch n b old) (Ended (n - length (list s stretch n b))) Bad
   pub marks : clean s stretch n b old ≡ true → new ≡ marked old (list s stretch n b)
+
+-- ---- the same in numbers: the link of block b is word before + b * width, for the blocks 1 to m
+pub record Linked (words : List ℕ) (before width m : ℕ) : Type 0 where
+  pub inside : before + m * width < length words
+  pub small : before + m * width ≤ 85274
+
+-- block b may be stepped on: it is one, and has no mark
+unfoldable pub stepsOn : ℕ → List ℕ → ℕ → Bool
+stepsOn m marks b = leb b m && eqb (getD marks b 0) 0
+
+unfoldable pub stepped : List ℕ → ℕ → ℕ → ℕ → List ℕ → ℕ → Stepped
+stepped words before width m marks b = cond (stepsOn m marks b) (On (getD words (before + b * width) 0)) Stuck
+
+unfoldable pub steppedOn : ℕ → List ℕ → ℕ → List ℕ
+steppedOn m marks b = cond (stepsOn m marks b) (set marks b 1) marks
+
+-- what a visit answers, by a number: 0 for a bad chain, else one more than how many blocks were not there
+unfoldable pub toldBy : ℕ → Walk
+toldBy zero = Bad
+toldBy (suc n) = Ended n
+
+-- a walk by such numbers is a visit in each stretch that they are of
+abbrev pub Walked : List ℕ → ℕ → ℕ → ℕ → ℕ → ℕ → List ℕ → ℕ → List ℕ → Type 0
+Walked words before width m n b old r new =
+    (s : Settings) → Stretch s words → before ≡ blockAt s 1 - 1 → width ≡ s .b → m ≡ s .m → Visited s words n b old (toldBy r) new

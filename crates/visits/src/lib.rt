@@ -1,19 +1,16 @@
 // Visiting the chains of a node: each block is marked once, and each letter is looked at.
-use queues::Kind;
 use settings::Settings;
-use tasks::Seat;
 ghost use mathlib.Core.Path.{_≡_};
 ghost use mathlib.Core.Bool.{true, _&&_};
 ghost use mathlib.Core.List.{[], _∷_};
-ghost use Prim.Native.Nat.{_<_};
+ghost use Prim.Native.Nat.{_≤_, _<_};
 ghost use lib.ListN.{length};
 ghost use Rattle.layout.specs.Asked.{Stretch};
-ghost use Rattle.layout.specs.Places.{tableWords};
-ghost use Rattle.queues.specs.Queue.{Queue, contents};
+ghost use Rattle.tasks.specs.Table.{rightTable};
 ghost use Rattle.queues.specs.Items.{live};
 ghost use Rattle.sound.specs.Letters.{rightLength, rightHeader, rightPlace, wordsFrom};
 ghost use Rattle.sound.specs.Blocks.{chains};
-ghost use Rattle.visits.specs.Marks.{marked, Visited};
+ghost use Rattle.visits.specs.Marks.{marked, Linked, stepped, steppedOn, Walked, Visited};
 ghost use Rattle.visits.specs.Letters.{
   Whole,
   Readable,
@@ -31,9 +28,61 @@ pub enum Walk {
     Bad,
 }
 
+// What a step over one block tells: the block that follows, or that the walk is stuck.
+pub enum Stepped {
+    On(u32),
+    Stuck,
+}
+
+// Marks block b and tells its link, word `before + b * width`; stuck where b is above m or has a mark.
+fn step(node: &[u32], before: usize, width: usize, m: usize, marks: &mut [u8], b: u32) -> Stepped
+    requires { ⌜ Linked (now node) before width m ⌝ }
+    requires { ⌜ m < length (now marks) ⌝ }
+    ensures answer { λ r. ⌜ r ≡ stepped (now (node .entry)) before width m (now (marks .entry)) b ⌝ }
+    ensures stored { λ _. ⌜ now (marks .exit) ≡ steppedOn m (now (marks .entry)) b ⌝ }
+{
+    let at = b as usize;
+    if m < at {
+        return Stepped::Stuck;
+    }
+    if marks[at] != 0 {
+        return Stepped::Stuck;
+    }
+    marks[at] = 1;
+    Stepped::On(node[before + at * width])
+}
+
+// The walk from block b on, `owed` blocks at most, each link followed leaving one fewer owed: one more than how many of
+// them were not there, or 0 for a bad chain. It takes numbers and answers a number, so that a step costs little.
+fn follow(
+    node: &[u32],
+    before: usize,
+    width: usize,
+    m: usize,
+    marks: &mut [u8],
+    b: u32,
+    owed: usize,
+) -> usize
+    requires { ⌜ Linked (now node) before width m ⌝ }
+    requires { ⌜ m < length (now marks) ⌝ }
+    requires { ⌜ 1 ≤ b ⌝ }
+    ensures { λ r. ⌜ Walked (now (node .entry)) before width m owed b (now (marks .entry)) r (now (marks .exit)) ⌝ }
+{
+    if owed == 0 {
+        return 0;
+    }
+    let Stepped::On(next) = step(node, before, width, m, marks, b) else {
+        return 0;
+    };
+    if next == 0 {
+        return owed;
+    }
+    follow(node, before, width, m, marks, next, owed - 1)
+}
+
 // Follows the chain from b on, `owed` blocks at most, and marks each; bad where a block is none or has a
-// mark, or the chain does not end.
-pub fn visit(node: &[u32], s: Settings, marks: &mut [u32], b: u32, owed: usize) -> Walk
+// mark, or the chain does not end. Most letters have one block: the first step is made here.
+pub fn visit(node: &[u32], s: Settings, marks: &mut [u8], b: u32, owed: usize) -> Walk
     requires { ⌜ Stretch s (now node) ⌝ }
     requires { ⌜ s .m < length (now marks) ⌝ }
     ensures { λ r. ⌜ Visited s (now (node .entry)) owed b (now (marks .entry)) r (now (marks .exit)) ⌝ }
@@ -44,24 +93,29 @@ pub fn visit(node: &[u32], s: Settings, marks: &mut [u32], b: u32, owed: usize) 
     if owed == 0 {
         return Walk::Bad;
     }
-    let at = b as usize;
-    if s.m < at {
+    let before = layout::block_at(s, 1) - 1;
+    let Stepped::On(next) = step(node, before, s.b, s.m, marks, b) else {
+        return Walk::Bad;
+    };
+    if next == 0 {
+        return Walk::Ended(owed - 1);
+    }
+    let left = follow(node, before, s.b, s.m, marks, next, owed - 1);
+    if left == 0 {
         return Walk::Bad;
     }
-    if marks[at] != 0 {
-        return Walk::Bad;
-    }
-    marks[at] = 1;
-    let next = blocks::link_of(node, s, b);
-    visit(node, s, marks, next, owed - 1)
+    Walk::Ended(left - 1)
 }
 
-// Whether the letter that block b begins has a valid length and the blocks it needs; it has `count`.
+// Whether the letter that block b begins has a valid length and the blocks it needs; it has `count`. The words that they
+// carry are compared with the length, without a division.
 fn is_right_length(node: &[u32], s: Settings, b: u32, count: usize) -> bool
     requires { ⌜ Whole s (now node) b count ⌝ }
     ensures { λ r. ⌜ r ≡ rightLength s (now (node .entry)) b ⌝ }
 {
-    if count < blocks::needs_of(s, 5) {
+    let room = s.b - 1;
+    let carried = count * room;
+    if carried < 5 {
         return false;
     }
     let n = letters::told_length(node, s, b) as usize;
@@ -71,19 +125,24 @@ fn is_right_length(node: &[u32], s: Settings, b: u32, count: usize) -> bool
     if 1024 < n {
         return false;
     }
-    count == blocks::needs_of(s, n)
+    if carried < n {
+        return false;
+    }
+    carried < n + room
 }
 
-// Whether the task is bound, and on that node.
+// Whether the task is bound, and on that node: in a right table the node's number tells that the task is bound.
 fn is_on(table: &[u32], task: u32, node: u32) -> bool
-    requires { ⌜ length (now table) ≡ tableWords ⌝ }
+    requires { ⌜ rightTable (now table) ≡ true ⌝ }
     ensures { λ r. ⌜ r ≡ isOn (now (table .entry)) task node ⌝ }
 {
-    let seat = tasks::seat_of(table, task);
-    let Seat::At(own, _) = seat else {
+    if 255 < task {
         return false;
-    };
-    own == node
+    }
+    if 5 < node {
+        return false;
+    }
+    table[task as usize * 2] == node
 }
 
 // Whether the nodes of a header are i and k.
@@ -115,7 +174,33 @@ fn is_at_place(seats: &[u32], i: usize, p: usize, from: u32, task: u32, to: u32)
     task == seats[i * 64 + (p - 13)]
 }
 
-// Whether the letter that block b begins has a header of bound tasks on their nodes, right for its place.
+// Whether the four words are a header of bound tasks on their nodes, right for its place.
+fn is_right_head(
+    table: &[u32],
+    seats: &[u32],
+    i: usize,
+    p: usize,
+    source: u32,
+    from: u32,
+    task: u32,
+    to: u32,
+) -> bool
+    requires { ⌜ rightTable (now table) ≡ true ⌝ }
+    requires { ⌜ length (now seats) ≡ 384 ⌝ }
+    requires { ⌜ (i < 6) × (p < 77) ⌝ }
+    ensures { λ r. ⌜ r ≡ (isOn (now (table .entry)) source from && (isOn (now (table .entry)) task to && isAtPlace (now (seats .entry)) i p from task to)) ⌝ }
+{
+    if !is_on(table, source, from) {
+        return false;
+    }
+    if !is_on(table, task, to) {
+        return false;
+    }
+    is_at_place(seats, i, p, from, task, to)
+}
+
+// Whether the letter that block b begins has a header of bound tasks on their nodes, right for its place. A block of six
+// words or more carries the header's.
 fn is_right_header(
     node: &[u32],
     s: Settings,
@@ -129,26 +214,34 @@ fn is_right_header(
     requires { ⌜ Readable s (now node) b ⌝ }
     ensures { λ r. ⌜ r ≡ (rightHeader (now (table .entry)) (wordsFrom s (now (node .entry)) b) && rightPlace (now (table .entry)) i p (wordsFrom s (now (node .entry)) b)) ⌝ }
 {
-    let from = letters::word_of(node, s, b, 1);
-    if !is_on(table, letters::word_of(node, s, b, 0), from) {
-        return false;
+    if 5 < s.b {
+        let at = layout::block_at(s, b as usize);
+        return is_right_head(
+            table,
+            seats,
+            i,
+            p,
+            node[at],
+            node[at + 1],
+            node[at + 2],
+            node[at + 3],
+        );
     }
+    let source = letters::word_of(node, s, b, 0);
+    let from = letters::word_of(node, s, b, 1);
     let task = letters::word_of(node, s, b, 2);
     let to = letters::word_of(node, s, b, 3);
-    if !is_on(table, task, to) {
-        return false;
-    }
-    is_at_place(seats, i, p, from, task, to)
+    is_right_head(table, seats, i, p, source, from, task, to)
 }
 
 // Whether the letter that block b begins at place p of node i is right and none of its blocks has a mark;
 // marks them. Block 0 is a gap and begins none.
-pub fn is_right_letter(
+fn is_right_letter(
     node: &[u32],
     s: Settings,
     table: &[u32],
     seats: &[u32],
-    marks: &mut [u32],
+    marks: &mut [u8],
     i: usize,
     p: usize,
     b: u32,
@@ -169,28 +262,24 @@ pub fn is_right_letter(
     is_right_header(node, s, table, seats, i, p, b)
 }
 
-// The same of each item of a queue.
+// The same of each item of a row.
 pub fn are_right_letters(
-    queue: &[u32],
-    k: Kind,
-    q: usize,
+    items: &[u32],
     node: &[u32],
     s: Settings,
     table: &[u32],
     seats: &[u32],
-    marks: &mut [u32],
+    marks: &mut [u8],
     i: usize,
     p: usize,
 ) -> bool
-    requires { ⌜ Queue k (now queue) q ⌝ }
     requires { ⌜ Placing s (now node) (now table) (now seats) i p ⌝ }
     requires { ⌜ s .m < length (now marks) ⌝ }
-    ensures { λ r. ⌜ Judged (lettersRight s (now (node .entry)) (now (table .entry)) i p (now (marks .entry)) (live (contents k (now (queue .entry)) q))) (marked (now (marks .entry)) (chains s (now (node .entry)) (live (contents k (now (queue .entry)) q)))) r (now (marks .exit)) ⌝ }
+    ensures { λ r. ⌜ Judged (lettersRight s (now (node .entry)) (now (table .entry)) i p (now (marks .entry)) (live (now (items .entry)))) (marked (now (marks .entry)) (chains s (now (node .entry)) (live (now (items .entry))))) r (now (marks .exit)) ⌝ }
 {
-    let count = queues::items_of(queue, k, q);
     let mut j: usize = 0;
-    while j < count {
-        let b = queues::item(queue, k, q, j);
+    while j < items.len() {
+        let b = items[j];
         if !is_right_letter(node, s, table, seats, marks, i, p, b) {
             return false;
         }

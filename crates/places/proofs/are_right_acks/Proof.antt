@@ -1,64 +1,139 @@
 -- `places::are_right_acks` meets its contract. Assumes nothing.
-use Prim.Native.Nat.{_-_}
-use Rattle.places.proofs.Begun.{lent-placing, ack-is, begun-ack, judged-same, node-lent}
+use mathlib.Core.Path.{_≡_, refl, sym, ap, _∙_}
+use mathlib.Core.Bool.{true}
+use mathlib.Core.Logic.{⊎-elim}
+use Prim.Native.Nat.{_+_, _≤_, _-_}
 use native.Mathlib.Omega.{arith}
+use lib.ListN.{length}
+use borrow.Author.Tests.{not-true, not-false}
+use Rattle.words.specs.Words.{every}
+use Rattle.visits.specs.Marks.{marked}
+use Rattle.places.specs.Given.{standingFrom}
+use Rattle.places.proofs.Begun.{lent-placing, ack-is, begun-ack, node-lent, none-live, judged-same}
+use Rattle.places.proofs.Ranges.{rightAt, range-start, range-end, range-none, range-bad, range-next}
 use borrow.Author.Needs.{needs}
 use Rattle.places.proofs.are_right_acks.Statement.{statement}
 use Rattle.places.proofs.are_right_acks.Tie as tie
 
-node-size-requires : tie.Need-node-size-requires
-node-size-requires c κs = search needs
+abbrev Inv-loop : tie.InvT-loop
+Inv-loop memory node s table seats marks₀ i kind size q k₀ marks k = (k ≤ 6) × (length marks ≡ length marks₀) × (every k (rightAt s memory node table i 7 marks₀) ≡ true) × (marks ≡ marked marks₀ (standingFrom s memory i 7 k))
 
-sub-node-at : tie.Need-sub-node-at
-sub-node-at c = search needs
+abbrev μ-loop : tie.MeasureT-loop
+μ-loop memory node s table seats marks₀ i kind size q k₀ marks k = 6 - k
 
-node-at-requires : tie.Need-node-at-requires
-node-at-requires c κs = search needs
-
-add-e : tie.Need-add-e
-add-e c = search needs
-
-ack-kind-requires : tie.Need-ack-kind-requires
+ack-kind-requires : tie.Need-ack-kind-requires Inv-loop μ-loop
 ack-kind-requires c κs = search needs
 
-ack-at-requires : tie.Need-ack-at-requires
+node-size-requires : tie.Need-node-size-requires Inv-loop μ-loop
+node-size-requires c κs = search needs
+
+ack-at-requires : tie.Need-ack-at-requires Inv-loop μ-loop
 ack-at-requires c κs = search needs
 
-mul-are-right-letters : tie.Need-mul-are-right-letters
-mul-are-right-letters c = search needs
+loop-holds : tie.Need-loop-holds Inv-loop μ-loop
+loop-holds c = let y = c .before .before .before .before .before .before .before .before in let x = y .args in let b = range-start (x .s) (x .memory .now) (x .node .now) (x .table .now) (x .seats .now) (x .i) (y .pre .0) 7 (x .marks .now) in (omega arith, refl, b .0, b .1)
 
-sub-are-right-letters : tie.Need-sub-are-right-letters
-sub-are-right-letters c = search needs
+node-at-requires : tie.Need-node-at-requires Inv-loop μ-loop
+node-at-requires c κs = search needs
 
-part-are-right-letters-start : tie.Need-part-are-right-letters-start
-part-are-right-letters-start c = search needs
+add-e : tie.Need-add-e Inv-loop μ-loop
+add-e c = search needs
 
-part-are-right-letters-end : tie.Need-part-are-right-letters-end
-part-are-right-letters-end c = search needs
+mul-items-of : tie.Need-mul-items-of Inv-loop μ-loop
+mul-items-of c = search needs
 
-are-right-letters-requires : tie.Need-are-right-letters-requires
-are-right-letters-requires c κs = (ack-is (c .before .before .before .before .before .before .before .before .before .before .before .args .s) (c .before .before .before .before .before .before .before .before .before .before .before .args .memory .now) (c .before .before .before .before .before .before .before .before .before .before .before .args .node .now) (c .before .before .before .before .before .before .before .before .before .before .before .args .table .now) (c .before .before .before .before .before .before .before .before .before .before .before .args .seats .now) (c .before .before .before .before .before .before .before .before .before .before .before .args .i) (c .before .before .before .before .before .before .before .before .before .before .before .pre .0) _ _ (c .before .before .before .before .before .before .before .before .before .before .before .args .p) _ (c .before .before .before .before .before .before .before .before .before .before .before .pre .1 .0 .0) (c .before .before .before .before .before .before .before .before .before .before .before .pre .1 .0 .1) (node-lent (c .before .before .before .before .before .before .before .before .before .before .before .args .s) (c .before .before .before .before .before .before .before .before .before .before .before .args .memory .now) (c .before .before .before .before .before .before .before .before .before .before .before .args .p - 7) _ _ (c .before .before .before .before .node-at .ensures .is) (c .before .before .before .before .before .node-size .ensures .is)) (c .before .before .before .ack-kind .ensures) (c .before .before .ack-at .ensures .is), (lent-placing (c .before .before .before .before .before .before .before .before .before .before .before .args .s) (c .before .before .before .before .before .before .before .before .before .before .before .args .memory .now) (c .before .before .before .before .before .before .before .before .before .before .before .args .node .now) (c .before .before .before .before .before .before .before .before .before .before .before .args .table .now) (c .before .before .before .before .before .before .before .before .before .before .before .args .seats .now) (c .before .before .before .before .before .before .before .before .before .before .before .args .i) (c .before .before .before .before .before .before .before .before .before .before .before .pre .0) (c .before .before .before .before .before .before .before .before .before .before .before .args .p) (omega arith), c .before .before .before .before .before .before .before .before .before .before .before .pre .1 .1))
+sub-items-of : tie.Need-sub-items-of Inv-loop μ-loop
+sub-items-of c = search needs
 
-same-length : tie.Need-same-length
-same-length c = search needs
+part-items-of-start : tie.Need-part-items-of-start Inv-loop μ-loop
+part-items-of-start c = search needs
 
-returns : tie.Need-returns
-returns c = judged-same (c .before .before .before .before .before .before .before .before .before .before .before .before .before .before .args .s) (c .before .before .before .before .before .before .before .before .before .before .before .before .before .before .args .node .now) (c .before .before .before .before .before .before .before .before .before .before .before .before .before .before .args .table .now) (c .before .before .before .before .before .before .before .before .before .before .before .before .before .before .args .i) (c .before .before .before .before .before .before .before .before .before .before .before .before .before .before .args .p) (c .before .before .before .before .before .before .before .before .before .before .before .before .before .before .args .marks .now) _ _ _ _ (begun-ack (c .before .before .before .before .before .before .before .before .before .before .before .before .before .before .args .s) (c .before .before .before .before .before .before .before .before .before .before .before .before .before .before .args .memory .now) (c .before .before .before .before .before .before .before .before .before .before .before .before .before .before .args .node .now) (c .before .before .before .before .before .before .before .before .before .before .before .before .before .before .args .table .now) (c .before .before .before .before .before .before .before .before .before .before .before .before .before .before .args .seats .now) (c .before .before .before .before .before .before .before .before .before .before .before .before .before .before .args .i) (c .before .before .before .before .before .before .before .before .before .before .before .before .before .before .pre .0) _ _ (c .before .before .before .before .before .before .before .before .before .before .before .before .before .before .args .p) _ (c .before .before .before .before .before .before .before .before .before .before .before .before .before .before .pre .1 .0 .0) (c .before .before .before .before .before .before .before .before .before .before .before .before .before .before .pre .1 .0 .1) (node-lent (c .before .before .before .before .before .before .before .before .before .before .before .before .before .before .args .s) (c .before .before .before .before .before .before .before .before .before .before .before .before .before .before .args .memory .now) (c .before .before .before .before .before .before .before .before .before .before .before .before .before .before .args .p - 7) _ _ (c .before .before .before .before .before .before .before .node-at .ensures .is) (c .before .before .before .before .before .before .before .before .node-size .ensures .is)) (c .before .before .before .before .before .before .ack-kind .ensures) (c .before .before .before .before .before .ack-at .ensures .is)) (c .before .before .are-right-letters .ensures)
+part-items-of-end : tie.Need-part-items-of-end Inv-loop μ-loop
+part-items-of-end c = search needs
+
+items-of-requires : tie.Need-items-of-requires Inv-loop μ-loop
+items-of-requires c κs = let y = c .before .before .before .before .before .before .before .before .before .before .before .before in let x = y .args in let t = c .before .before .before .loop in ack-is (x .s) (x .memory .now) (x .node .now) (x .table .now) (x .seats .now) (x .i) (y .pre .0) _ _ (t .k) _ (omega arith) (node-lent (x .s) (x .memory .now) (t .k) _ _ (c .before .node-at .ensures .is) (c .before .before .before .before .before .node-size .ensures .is)) (c .before .before .before .before .before .before .ack-kind .ensures) (c .before .before .before .before .ack-at .ensures .is)
+
+mul-are-right-items : tie.Need-mul-are-right-items Inv-loop μ-loop
+mul-are-right-items c = search needs
+
+sub-are-right-items : tie.Need-sub-are-right-items Inv-loop μ-loop
+sub-are-right-items c = search needs
+
+part-are-right-items-start : tie.Need-part-are-right-items-start Inv-loop μ-loop
+part-are-right-items-start c = search needs
+
+part-are-right-items-end : tie.Need-part-are-right-items-end Inv-loop μ-loop
+part-are-right-items-end c = search needs
+
+add-are-right-items : tie.Need-add-are-right-items Inv-loop μ-loop
+add-are-right-items c = search needs
+
+are-right-items-requires : tie.Need-are-right-items-requires Inv-loop μ-loop
+are-right-items-requires c κs = let y = c .before .before .before .before .before .before .before .before .before .before .before .before .before .before .before .before in let x = y .args in let t = c .before .before .before .before .before .before .before .loop in (ack-is (x .s) (x .memory .now) (x .node .now) (x .table .now) (x .seats .now) (x .i) (y .pre .0) _ _ (t .k) _ (omega arith) (node-lent (x .s) (x .memory .now) (t .k) _ _ (c .before .before .before .before .before .node-at .ensures .is) (c .before .before .before .before .before .before .before .before .before .node-size .ensures .is)) (c .before .before .before .before .before .before .before .before .before .before .ack-kind .ensures) (c .before .before .before .before .before .before .before .before .ack-at .ensures .is), (lent-placing (x .s) (x .memory .now) (x .node .now) (x .table .now) (x .seats .now) (x .i) (y .pre .0) _ (omega arith), omega (arith, y .pre .1, t .inv .1)))
+
+same-length : tie.Need-same-length Inv-loop μ-loop
+same-length c = c .before .before .before .are-right-items .kept .1 .1 .1 .1 .1 .1 .1 .0 ∙ c .before .before .before .before .before .before .before .before .before .before .before .loop .inv .1
+
+returns : tie.Need-returns Inv-loop μ-loop
+returns c =
+    let y = c .before .before .before .before .before .before .before .before .before .before .before .before .before .before .before .before .before .before .before .before in let x = y .args in
+    let t = c .before .before .before .before .before .before .before .before .before .before .before .loop in
+    range-bad (x .s) (x .memory .now) (x .node .now) (x .table .now) (x .seats .now) (x .i) (y .pre .0) 7 (x .marks .now) (t .marks) (t .k) (t .inv .2) (t .inv .3) _ _ (judged-same (x .s) (x .node .now) (x .table .now) (x .i) (7 + t .k) (t .marks) _ _ _ _ (begun-ack (x .s) (x .memory .now) (x .node .now) (x .table .now) (x .seats .now) (x .i) (y .pre .0) _ _ (t .k) _ (omega arith) (node-lent (x .s) (x .memory .now) (t .k) _ _ (c .before .before .before .before .before .before .before .before .before .node-at .ensures .is) (c .before .before .before .before .before .before .before .before .before .before .before .before .before .node-size .ensures .is)) (c .before .before .before .before .before .before .before .before .before .before .before .before .before .before .ack-kind .ensures) (c .before .before .before .before .before .before .before .before .before .before .before .before .ack-at .ensures .is)) (c .before .before .before .are-right-items .ensures)) 6 (omega arith) (not-true _ (c .if2 .taken))
+
+add-k : tie.Need-add-k Inv-loop μ-loop
+add-k c = search needs
+
+loop-less : tie.Need-loop-less Inv-loop μ-loop
+loop-less c = search needs
+
+loop-again : tie.Need-loop-again Inv-loop μ-loop
+loop-again c =
+    let y = c .before .before .before .before .before .before .before .before .before .before .before .before .before .before in let x = y .args in
+    let t = c .before .before .before .before .before .loop in
+    let e = begun-ack (x .s) (x .memory .now) (x .node .now) (x .table .now) (x .seats .now) (x .i) (y .pre .0) _ _ (t .k) _ (omega arith) (node-lent (x .s) (x .memory .now) (t .k) _ _ (c .before .before .before .node-at .ensures .is) (c .before .before .before .before .before .before .before .node-size .ensures .is)) (c .before .before .before .before .before .before .before .before .ack-kind .ensures) (c .before .before .before .before .before .before .ack-at .ensures .is) in
+    ⊎-elim
+    (λ w.
+    let n = range-next (x .s) (x .memory .now) (x .node .now) (x .table .now) (x .seats .now) (x .i) (y .pre .0) 7 (x .marks .now) (t .marks) (t .k) (t .inv .2) (t .inv .3) _ _ (judged-same (x .s) (x .node .now) (x .table .now) (x .i) (7 + t .k) (t .marks) _ _ _ _ e (w .3 .ensures)) (not-false _ (w .6 .left)) in
+    (omega arith, ap length (w .7) ∙ w .3 .kept .1 .1 .1 .1 .1 .1 .1 .0 ∙ t .inv .1, n .0, w .7 ∙ n .1))
+    (λ w.
+    let n = range-none (x .s) (x .memory .now) (x .node .now) (x .table .now) (x .seats .now) (x .i) (y .pre .0) 7 (x .marks .now) (t .marks) (t .k) (t .inv .2) (t .inv .3) (sym e ∙ none-live _ _ _ _ (c .before .items-of .ensures) (w .0 .left)) in
+    (omega arith, ap length (w .1) ∙ t .inv .1, n .0, w .1 ∙ n .1))
+    (c .if1 .came)
+
+same-length-2 : tie.Need-same-length-2 Inv-loop μ-loop
+same-length-2 c = search needs
+
+returns-2 : tie.Need-returns-2 Inv-loop μ-loop
+returns-2 c = let y = c .before .before .before .before .before .before .before .before .before .before in let x = y .args in let t = c .before .loop in range-end (x .s) (x .memory .now) (x .node .now) (x .table .now) (x .seats .now) (x .i) (y .pre .0) 7 (x .marks .now) (t .marks) (t .k) (t .inv .2) (t .inv .3) 6 (omega arith)
 
 pub are-right-acks-spec : {M : Type 1} → statement M
 are-right-acks-spec =
     tie.close
     (tie.spec
+    Inv-loop
+    μ-loop
+    ack-kind-requires
     node-size-requires
-    sub-node-at
+    ack-at-requires
+    loop-holds
     node-at-requires
     add-e
-    ack-kind-requires
-    ack-at-requires
-    mul-are-right-letters
-    sub-are-right-letters
-    part-are-right-letters-start
-    part-are-right-letters-end
-    are-right-letters-requires
+    mul-items-of
+    sub-items-of
+    part-items-of-start
+    part-items-of-end
+    items-of-requires
+    mul-are-right-items
+    sub-are-right-items
+    part-are-right-items-start
+    part-are-right-items-end
+    add-are-right-items
+    are-right-items-requires
     same-length
-    returns)
+    returns
+    add-k
+    loop-less
+    loop-again
+    same-length-2
+    returns-2)

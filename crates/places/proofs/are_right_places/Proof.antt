@@ -1,65 +1,77 @@
 -- `places::are_right_places` meets its contract. Assumes nothing.
-use Rattle.places.proofs.Once.{rightAt, standing-none, places-end, places-bad, places-next}
-use Rattle.sound.proofs.Tests.{every-none}
-use Rattle.visits.specs.Marks.{marked}
-use Rattle.sound.specs.Blocks.{standing}
-use Rattle.words.specs.Words.{every}
-use borrow.Author.Tests.{not-true, not-false}
-use lib.ListN.{length}
 use native.Mathlib.Omega.{arith}
-use Prim.Native.Nat.{_≤_, _-_}
-use mathlib.Core.Bool.{true}
-use mathlib.Core.Path.{_≡_, refl, _∙_}
 use borrow.Author.Needs.{needs}
+use borrow.Author.Tests.{not-true, not-false}
+use Rattle.places.proofs.Ranges.{hand-range, join-bad, join-next, places-all}
 use Rattle.places.proofs.are_right_places.Statement.{statement}
 use Rattle.places.proofs.are_right_places.Tie as tie
 
-abbrev Inv-loop : tie.InvT-loop
-Inv-loop memory node s table seats marks₀ i p₀ marks p = (p ≤ 77) × (length marks ≡ length marks₀) × (every p (rightAt s memory node table i marks₀) ≡ true) × (marks ≡ marked marks₀ (standing s memory i p))
+is-right-hand-requires : tie.Need-is-right-hand-requires
+is-right-hand-requires c κs = search needs
 
-abbrev μ-loop : tie.MeasureT-loop
-μ-loop memory node s table seats marks₀ i p₀ marks p = 77 - p
+same-length : tie.Need-same-length
+same-length c = search needs
 
-loop-holds : tie.Need-loop-holds Inv-loop μ-loop
-loop-holds c = (omega arith, refl, every-none _, standing-none (c .before .before .before .before .before .args .s) (c .before .before .before .before .before .args .memory .now) (c .before .before .before .before .before .args .node .now) (c .before .before .before .before .before .args .table .now) (c .before .before .before .before .before .args .i) (c .before .before .before .before .before .args .marks .now))
+returns : tie.Need-returns
+returns c =
+    let y = c .before .before .before .before .before .before .before .before .before .before in let x = y .args in
+    let h = hand-range (x .s) (x .memory .now) (x .node .now) (x .table .now) (x .seats .now) (x .i) (y .pre .0) (x .marks .now) _ _ (c .before .before .before .is-right-hand .ensures) in
+    places-all (x .s) (x .memory .now) (x .i) (x .marks .now) _ _ (join-bad (x .s) (x .memory .now) (x .i) 0 1 76 (x .marks .now) _ _ h (not-true _ (c .if1 .taken)) _)
 
-are-right-at-requires : tie.Need-are-right-at-requires Inv-loop μ-loop
-are-right-at-requires c κs = (c .before .before .before .before .before .before .before .before .pre .0, (omega arith, omega (arith, c .before .before .before .before .before .before .before .before .pre .1)))
+are-right-sends-requires : tie.Need-are-right-sends-requires
+are-right-sends-requires c κs = search needs
 
-same-length : tie.Need-same-length Inv-loop μ-loop
-same-length c = c .before .before .before .are-right-at .kept .1 .1 .1 .1 .1 .0 ∙ c .before .before .before .before .before .before .loop .inv .1
-
-returns : tie.Need-returns Inv-loop μ-loop
-returns c = places-bad (c .before .before .before .before .before .before .before .before .before .before .before .before .args .s) (c .before .before .before .before .before .before .before .before .before .before .before .before .args .memory .now) (c .before .before .before .before .before .before .before .before .before .before .before .before .args .node .now) (c .before .before .before .before .before .before .before .before .before .before .before .before .args .table .now) (c .before .before .before .before .before .before .before .before .before .before .before .before .args .i) (c .before .before .before .before .before .before .before .before .before .before .before .before .args .marks .now) _ (c .before .before .before .before .before .before .before .before .before .before .before .before .pre .0) (c .before .before .before .before .before .before .loop .marks) (c .before .before .before .before .before .before .loop .p) (c .before .before .before .before .before .before .loop .inv .2) (c .before .before .before .before .before .before .loop .inv .3) _ _ (c .before .before .before .are-right-at .ensures) (omega arith) (not-true _ (c .if1 .taken))
-
-add-p : tie.Need-add-p Inv-loop μ-loop
-add-p c = search needs
-
-loop-less : tie.Need-loop-less Inv-loop μ-loop
-loop-less c = search needs
-
-loop-again : tie.Need-loop-again Inv-loop μ-loop
-loop-again c = let w = places-next (c .before .before .before .before .before .before .before .before .before .before .before .before .args .s) (c .before .before .before .before .before .before .before .before .before .before .before .before .args .memory .now) (c .before .before .before .before .before .before .before .before .before .before .before .before .args .node .now) (c .before .before .before .before .before .before .before .before .before .before .before .before .args .table .now) (c .before .before .before .before .before .before .before .before .before .before .before .before .args .i) (c .before .before .before .before .before .before .before .before .before .before .before .before .args .marks .now) _ (c .before .before .before .before .before .before .before .before .before .before .before .before .pre .0) (c .before .before .before .before .before .before .loop .marks) (c .before .before .before .before .before .before .loop .p) (c .before .before .before .before .before .before .loop .inv .2) (c .before .before .before .before .before .before .loop .inv .3) _ _ (c .before .before .before .are-right-at .ensures) (not-false _ (c .if1 .left)) in
-    (omega arith, c .before .before .before .are-right-at .kept .1 .1 .1 .1 .1 .0 ∙ c .before .before .before .before .before .before .loop .inv .1, w .0, w .1)
-
-same-length-2 : tie.Need-same-length-2 Inv-loop μ-loop
+same-length-2 : tie.Need-same-length-2
 same-length-2 c = search needs
 
-returns-2 : tie.Need-returns-2 Inv-loop μ-loop
-returns-2 c = places-end (c .before .before .before .before .before .before .before .args .s) (c .before .before .before .before .before .before .before .args .memory .now) (c .before .before .before .before .before .before .before .args .node .now) (c .before .before .before .before .before .before .before .args .table .now) (c .before .before .before .before .before .before .before .args .i) (c .before .before .before .before .before .before .before .args .marks .now) _ (c .before .before .before .before .before .before .before .pre .0) (c .before .loop .marks) (c .before .loop .p) (c .before .loop .inv .2) (c .before .loop .inv .3) (omega arith)
+returns-2 : tie.Need-returns-2
+returns-2 c =
+    let y = c .before .before .before .before .before .before .before .before .before .before .before .before .before .before .before in let x = y .args in
+    let h = hand-range (x .s) (x .memory .now) (x .node .now) (x .table .now) (x .seats .now) (x .i) (y .pre .0) (x .marks .now) _ _ (c .before .before .before .before .before .before .before .before .is-right-hand .ensures) in
+    let a = join-next (x .s) (x .memory .now) (x .i) 0 1 6 (x .marks .now) _ _ h (not-false _ (c .before .before .before .before .before .if1 .left)) _ _ (c .before .before .before .are-right-sends .ensures) in
+    places-all (x .s) (x .memory .now) (x .i) (x .marks .now) _ _ (join-bad (x .s) (x .memory .now) (x .i) 0 7 70 (x .marks .now) _ _ a (not-true _ (c .if2 .taken)) _)
+
+are-right-acks-requires : tie.Need-are-right-acks-requires
+are-right-acks-requires c κs = let y = c .before .before .before .before .before .before .before .before .before .before .before .before .before .before .before .before in let x = y .args in (y .pre .0, omega (arith, y .pre .1, c .before .before .before .before .are-right-sends .kept .1 .1 .1 .1 .1 .0, c .before .before .before .before .before .before .before .before .before .is-right-hand .kept .1 .1 .1 .1 .1 .0))
+
+same-length-3 : tie.Need-same-length-3
+same-length-3 c = search needs
+
+returns-3 : tie.Need-returns-3
+returns-3 c =
+    let y = c .before .before .before .before .before .before .before .before .before .before .before .before .before .before .before .before .before .before .before .before in let x = y .args in
+    let h = hand-range (x .s) (x .memory .now) (x .node .now) (x .table .now) (x .seats .now) (x .i) (y .pre .0) (x .marks .now) _ _ (c .before .before .before .before .before .before .before .before .before .before .before .before .before .is-right-hand .ensures) in
+    let a = join-next (x .s) (x .memory .now) (x .i) 0 1 6 (x .marks .now) _ _ h (not-false _ (c .before .before .before .before .before .before .before .before .before .before .if1 .left)) _ _ (c .before .before .before .before .before .before .before .before .are-right-sends .ensures) in
+    let b = join-next (x .s) (x .memory .now) (x .i) 0 7 6 (x .marks .now) _ _ a (not-false _ (c .before .before .before .before .before .if2 .left)) _ _ (c .before .before .before .are-right-acks .ensures) in
+    places-all (x .s) (x .memory .now) (x .i) (x .marks .now) _ _ (join-bad (x .s) (x .memory .now) (x .i) 0 13 64 (x .marks .now) _ _ b (not-true _ (c .if3 .taken)) _)
+
+are-right-tasks-requires : tie.Need-are-right-tasks-requires
+are-right-tasks-requires c κs = let y = c .before .before .before .before .before .before .before .before .before .before .before .before .before .before .before .before .before .before .before .before .before in let x = y .args in (y .pre .0, omega (arith, y .pre .1, c .before .before .before .before .are-right-acks .kept .1 .1 .1 .1 .1 .0, c .before .before .before .before .before .before .before .before .before .are-right-sends .kept .1 .1 .1 .1 .1 .0, c .before .before .before .before .before .before .before .before .before .before .before .before .before .before .is-right-hand .kept .1 .1 .1 .1 .1 .0))
+
+same-length-4 : tie.Need-same-length-4
+same-length-4 c = search needs
+
+returns-4 : tie.Need-returns-4
+returns-4 c =
+    let y = c .before .before .before .before .before .before .before .before .before .before .before .before .before .before .before .before .before .before .before .before .before .before .before .before in let x = y .args in
+    let h = hand-range (x .s) (x .memory .now) (x .node .now) (x .table .now) (x .seats .now) (x .i) (y .pre .0) (x .marks .now) _ _ (c .before .before .before .before .before .before .before .before .before .before .before .before .before .before .before .before .before .is-right-hand .ensures) in
+    let a = join-next (x .s) (x .memory .now) (x .i) 0 1 6 (x .marks .now) _ _ h (not-false _ (c .before .before .before .before .before .before .before .before .before .before .before .before .before .before .if1 .left)) _ _ (c .before .before .before .before .before .before .before .before .before .before .before .before .are-right-sends .ensures) in
+    let b = join-next (x .s) (x .memory .now) (x .i) 0 7 6 (x .marks .now) _ _ a (not-false _ (c .before .before .before .before .before .before .before .before .before .if2 .left)) _ _ (c .before .before .before .before .before .before .before .are-right-acks .ensures) in
+    places-all (x .s) (x .memory .now) (x .i) (x .marks .now) _ _ (join-next (x .s) (x .memory .now) (x .i) 0 13 64 (x .marks .now) _ _ b (not-false _ (c .before .before .before .before .if3 .left)) _ _ (c .before .before .are-right-tasks .ensures))
 
 pub are-right-places-spec : {M : Type 1} → statement M
 are-right-places-spec =
     tie.close
     (tie.spec
-    Inv-loop
-    μ-loop
-    loop-holds
-    are-right-at-requires
+    is-right-hand-requires
     same-length
     returns
-    add-p
-    loop-less
-    loop-again
+    are-right-sends-requires
     same-length-2
-    returns-2)
+    returns-2
+    are-right-acks-requires
+    same-length-3
+    returns-3
+    are-right-tasks-requires
+    same-length-4
+    returns-4)

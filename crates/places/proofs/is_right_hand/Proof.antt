@@ -1,43 +1,52 @@
 -- `places::is_right_hand` meets its contract. Assumes nothing.
-use Rattle.places.proofs.Begun.{lent-placing, hand-none, begun-held, judged-same}
-use Rattle.layout.proofs.Fits.{nodes-fit}
 use native.Mathlib.Omega.{arith}
+use Rattle.layout.proofs.Fits.{nodes-fit}
+use Rattle.places.proofs.Begun.{lent-placing, hand-none, begun-held, judged-same}
 use borrow.Author.Needs.{needs}
 use Rattle.places.proofs.is_right_hand.Statement.{statement}
 use Rattle.places.proofs.is_right_hand.Tie as tie
 
 mul-at : tie.Need-mul-at
-mul-at c = omega (arith, c .before .before .before .before .before .pre .0 .small)
+mul-at c = search needs
 
 add-at : tie.Need-add-at
-add-at c = omega (arith, c .before .before .before .before .before .pre .0 .small)
+add-at c = search needs
 
 mul-if1 : tie.Need-mul-if1
-mul-if1 c = omega (arith, c .before .before .before .before .before .pre .0 .small, c .before .before .before .before .before .pre .0 .looked .sized .long, nodes-fit (c .before .before .before .before .before .args .s))
+mul-if1 c = search needs
 
 shared-slice-read-if1 : tie.Need-shared-slice-read-if1
-shared-slice-read-if1 c = omega (arith, c .before .before .before .before .before .before .pre .0 .small, c .before .before .before .before .before .before .pre .0 .looked .sized .long, nodes-fit (c .before .before .before .before .before .before .args .s))
+shared-slice-read-if1 c = let y = c .before .before .before .before .before .before in omega (arith, y .pre .0 .small, y .pre .0 .looked .sized .long, nodes-fit (y .args .s))
 
 returns : tie.Need-returns
-returns c = hand-none (c .before .before .before .before .before .before .before .args .s) (c .before .before .before .before .before .before .before .args .memory .now) (c .before .before .before .before .before .before .before .args .node .now) (c .before .before .before .before .before .before .before .args .table .now) (c .before .before .before .before .before .before .before .args .seats .now) (c .before .before .before .before .before .before .before .args .i) (c .before .before .before .before .before .before .before .pre .0) (c .before .before .before .before .before .before .before .args .marks .now) (c .if1 .taken)
+returns c = let y = c .before .before .before .before .before .before .before in let x = y .args in hand-none (x .s) (x .memory .now) (x .node .now) (x .table .now) (x .seats .now) (x .i) (y .pre .0) (x .marks .now) (c .if1 .taken)
 
-add-is-right-letter : tie.Need-add-is-right-letter
-add-is-right-letter c = omega (arith, c .before .before .before .before .before .before .before .before .pre .0 .small)
+add-a : tie.Need-add-a
+add-a c = search needs
 
-mul-is-right-letter : tie.Need-mul-is-right-letter
-mul-is-right-letter c = omega (arith, c .before .before .before .before .before .before .before .before .pre .0 .small, c .before .before .before .before .before .before .before .before .pre .0 .looked .sized .long, nodes-fit (c .before .before .before .before .before .before .before .before .args .s))
+add-e : tie.Need-add-e
+add-e c = search needs
 
-shared-slice-read-is-right-letter : tie.Need-shared-slice-read-is-right-letter
-shared-slice-read-is-right-letter c = omega (arith, c .before .before .before .before .before .before .before .before .before .pre .0 .small, c .before .before .before .before .before .before .before .before .before .pre .0 .looked .sized .long, nodes-fit (c .before .before .before .before .before .before .before .before .before .args .s))
+mul-are-right-letters : tie.Need-mul-are-right-letters
+mul-are-right-letters c = search needs
 
-is-right-letter-requires : tie.Need-is-right-letter-requires
-is-right-letter-requires c κs = (lent-placing (c .before .before .before .before .before .before .before .before .before .args .s) (c .before .before .before .before .before .before .before .before .before .args .memory .now) (c .before .before .before .before .before .before .before .before .before .args .node .now) (c .before .before .before .before .before .before .before .before .before .args .table .now) (c .before .before .before .before .before .before .before .before .before .args .seats .now) (c .before .before .before .before .before .before .before .before .before .args .i) (c .before .before .before .before .before .before .before .before .before .pre .0) 0 (omega arith), c .before .before .before .before .before .before .before .before .before .pre .1)
+sub-are-right-letters : tie.Need-sub-are-right-letters
+sub-are-right-letters c = search needs
+
+part-are-right-letters-start : tie.Need-part-are-right-letters-start
+part-are-right-letters-start c = search needs
+
+part-are-right-letters-end : tie.Need-part-are-right-letters-end
+part-are-right-letters-end c = let y = c .before .before .before .before .before .before .before in omega (arith, y .pre .0 .small, y .pre .0 .looked .sized .long, nodes-fit (y .args .s))
+
+are-right-letters-requires : tie.Need-are-right-letters-requires
+are-right-letters-requires c κs = let y = c .before .before .before .before .before .before .before .before .before in let x = y .args in (lent-placing (x .s) (x .memory .now) (x .node .now) (x .table .now) (x .seats .now) (x .i) (y .pre .0) 0 (omega arith), y .pre .1)
 
 same-length : tie.Need-same-length
 same-length c = search needs
 
 returns-2 : tie.Need-returns-2
-returns-2 c = judged-same (c .before .before .before .before .before .before .before .before .before .before .before .before .args .s) (c .before .before .before .before .before .before .before .before .before .before .before .before .args .node .now) (c .before .before .before .before .before .before .before .before .before .before .before .before .args .table .now) (c .before .before .before .before .before .before .before .before .before .before .before .before .args .i) 0 (c .before .before .before .before .before .before .before .before .before .before .before .before .args .marks .now) _ _ _ _ (begun-held (c .before .before .before .before .before .before .before .before .before .before .before .before .args .s) (c .before .before .before .before .before .before .before .before .before .before .before .before .args .memory .now) (c .before .before .before .before .before .before .before .before .before .before .before .before .args .node .now) (c .before .before .before .before .before .before .before .before .before .before .before .before .args .table .now) (c .before .before .before .before .before .before .before .before .before .before .before .before .args .seats .now) (c .before .before .before .before .before .before .before .before .before .before .before .before .args .i) (c .before .before .before .before .before .before .before .before .before .before .before .before .pre .0) (c .before .before .before .before .before .if1 .left)) (c .before .before .is-right-letter .ensures)
+returns-2 c = let y = c .before .before .before .before .before .before .before .before .before .before .before .before in let x = y .args in judged-same (x .s) (x .node .now) (x .table .now) (x .i) 0 (x .marks .now) _ _ _ _ (begun-held (x .s) (x .memory .now) (x .node .now) (x .table .now) (x .seats .now) (x .i) (y .pre .0) (c .before .before .before .before .before .if1 .left)) (c .before .before .are-right-letters .ensures)
 
 pub is-right-hand-spec : {M : Type 1} → statement M
 is-right-hand-spec =
@@ -48,9 +57,12 @@ is-right-hand-spec =
     mul-if1
     shared-slice-read-if1
     returns
-    add-is-right-letter
-    mul-is-right-letter
-    shared-slice-read-is-right-letter
-    is-right-letter-requires
+    add-a
+    add-e
+    mul-are-right-letters
+    sub-are-right-letters
+    part-are-right-letters-start
+    part-are-right-letters-end
+    are-right-letters-requires
     same-length
     returns-2)

@@ -1,7 +1,7 @@
 -- `shapes::are_right_seats` meets its contract. Assumes nothing.
 use Rattle.sound.proofs.Given.{placed-task}
 use Rattle.shapes.specs.Shape.{rightSeat, rightSeats}
-use Rattle.shapes.specs.Seats.{seatAt}
+use Rattle.tasks.specs.Seat.{seatAt}
 use Rattle.sound.proofs.Tests.{every-none, turn-no, turn-more, turn-all}
 use Rattle.queues.specs.Queue.{taskKind}
 use Rattle.queues.specs.declared.Kind.{Kind}

@@ -1,38 +1,38 @@
 -- `shapes::is_right_post` meets its contract. Assumes nothing.
-use Rattle.sound.proofs.Shapes.{shape-queue}
-use Rattle.shapes.proofs.Steps.{post-shape, post-own, post-other}
-use borrow.Author.Tests.{not-true, not-false}
-use lib.Dec.{eqb}
-use mathlib.Core.Path.{sym, ap, _∙_}
+use Rattle.shapes.proofs.Steps.{post-empty}
 use borrow.Author.Needs.{needs}
 use Rattle.shapes.proofs.is_right_post.Statement.{statement}
 use Rattle.shapes.proofs.is_right_post.Tie as tie
 
-is-in-shape-requires : tie.Need-is-in-shape-requires
-is-in-shape-requires c κs = search needs
+add-if1 : tie.Need-add-if1
+add-if1 c = search needs
+
+mul-if1 : tie.Need-mul-if1
+mul-if1 c = search needs
+
+shared-slice-read-if1 : tie.Need-shared-slice-read-if1
+shared-slice-read-if1 c = search needs
+
+is-right-empty-requires : tie.Need-is-right-empty-requires
+is-right-empty-requires c κs = search needs
 
 returns : tie.Need-returns
-returns c = post-shape (c .before .before .before .args .k) (c .before .before .before .args .node .now) (c .before .before .before .args .q) (c .before .before .before .args .m) (c .before .before .before .args .own) (sym (c .before .is-in-shape .ensures) ∙ not-true _ (c .if1 .taken))
+returns c = let y = c .before .before .before .before in let x = y .args in post-empty (x .k) (x .node .now) (x .q) (x .m) (x .own) (c .before .if1 .taken) _ (c .is-right-empty .ensures)
 
-items-of-requires : tie.Need-items-of-requires
-items-of-requires c κs = shape-queue (c .before .before .before .before .args .k) (c .before .before .before .before .args .node .now) (c .before .before .before .before .args .q) (c .before .before .before .before .pre) (sym (c .before .before .is-in-shape .ensures) ∙ not-false _ (c .before .if1 .left))
+is-filled-post-requires : tie.Need-is-filled-post-requires
+is-filled-post-requires c κs = search needs
 
 returns-2 : tie.Need-returns-2
-returns-2 c = ap (λ n. eqb n 0) (c .items-of .ensures) ∙ post-own (c .before .before .before .before .before .args .k) (c .before .before .before .before .before .args .node .now) (c .before .before .before .before .before .args .q) (c .before .before .before .before .before .args .m) (c .before .before .before .before .before .args .own) (sym (c .before .before .before .is-in-shape .ensures) ∙ not-false _ (c .before .before .if1 .left)) (c .before .if2 .taken)
-
-are-within-requires : tie.Need-are-within-requires
-are-within-requires c κs = shape-queue (c .before .before .before .before .args .k) (c .before .before .before .before .args .node .now) (c .before .before .before .before .args .q) (c .before .before .before .before .pre) (sym (c .before .before .is-in-shape .ensures) ∙ not-false _ (c .before .if1 .left))
-
-returns-3 : tie.Need-returns-3
-returns-3 c = post-other (c .before .before .before .before .before .args .k) (c .before .before .before .before .before .args .node .now) (c .before .before .before .before .before .args .q) (c .before .before .before .before .before .args .m) (c .before .before .before .before .before .args .own) (sym (c .before .before .before .is-in-shape .ensures) ∙ not-false _ (c .before .before .if1 .left)) (c .before .if2 .left) _ (c .are-within .ensures)
+returns-2 c = search needs
 
 pub is-right-post-spec : {M : Type 1} → statement M
 is-right-post-spec =
     tie.close
     (tie.spec
-    is-in-shape-requires
+    add-if1
+    mul-if1
+    shared-slice-read-if1
+    is-right-empty-requires
     returns
-    items-of-requires
-    returns-2
-    are-within-requires
-    returns-3)
+    is-filled-post-requires
+    returns-2)

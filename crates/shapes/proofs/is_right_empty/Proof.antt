@@ -1,0 +1,45 @@
+-- `shapes::is_right_empty` meets its contract. Assumes nothing.
+use mathlib.Core.Path.{_∙_}
+use native.Mathlib.Omega.{arith}
+use borrow.Author.Needs.{needs}
+use Rattle.shapes.proofs.Steps.{shape-start}
+use Rattle.shapes.proofs.Clear.{empty-is}
+use Rattle.shapes.proofs.is_right_empty.Statement.{statement}
+use Rattle.shapes.proofs.is_right_empty.Tie as tie
+
+mul-first : tie.Need-mul-first
+mul-first c = search needs
+
+shared-slice-read-first : tie.Need-shared-slice-read-first
+shared-slice-read-first c = search needs
+
+cast-first : tie.Need-cast-first
+cast-first c = omega (arith, c .shared-slice-known2 .given (c .before .before .args .q))
+
+returns : tie.Need-returns
+returns c = let x = c .before .before .before .before .args in shape-start (x .k) (x .node .now) (x .q) (c .if1 .taken)
+
+add-base : tie.Need-add-base
+add-base c = search needs
+
+add-are-zero : tie.Need-add-are-zero
+add-are-zero c = search needs
+
+are-zero-requires : tie.Need-are-zero-requires
+are-zero-requires c κs = search needs
+
+returns-2 : tie.Need-returns-2
+returns-2 c = let y = c .before .before .before .before .before .before .before in let x = y .args in c .are-zero .ensures ∙ empty-is (x .k) (x .node .now) (x .q) (y .pre .1) (omega arith)
+
+pub is-right-empty-spec : {M : Type 1} → statement M
+is-right-empty-spec =
+    tie.close
+    (tie.spec
+    mul-first
+    shared-slice-read-first
+    cast-first
+    returns
+    add-base
+    add-are-zero
+    are-zero-requires
+    returns-2)
