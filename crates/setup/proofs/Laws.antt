@@ -1,44 +1,35 @@
 -- Lengths of the fresh words, and zeroes with a word stored. Assumes nothing.
 use mathlib.Core.Path.{_≡_, refl, sym, ap, _∙_}
 use mathlib.Core.List.{List, [], _∷_, _++_, append-nil, append-assoc}
-use Prim.Native.Nat.{ℕ, zero, suc, _+_, _-_, _*_, _≤_}
+use Prim.Native.Nat.{ℕ, zero, suc, _+_, _-_, _*_, _≤_, _<_}
 use native.Mathlib.Nat.{suc-mul, zero-mul, add-sub-cancel}
 use native.Mathlib.Omega.{arith}
 use native.Mathlib.Numerals.{add-one}
-use lib.ListN.{length, set, take, drop, replicate, length-append, length-replicate, drop-of-length-le, take-append-drop}
-use lib.Seq.{drop-at, take-at}
+use lib.ListN.{length, set, take, drop, replicate, length-append, length-replicate, replicate-append-replicate, drop-of-length-le, take-append-drop}
+use borrow.Author.Tests.{lt-ltb, le-ltb}
+use lib.Seq.{drop-at, take-at, set-at}
 use borrow.Rule.Slice.PartMut.{putMid}
 use Rattle.words.specs.Words.{part, splice}
 use Rattle.words.proofs.Parts.{grown, back, length-part}
 use Rattle.settings.specs.declared.Settings.{Settings}
 use Rattle.settings.specs.Range.{InRange}
-use Rattle.layout.specs.Places.{tableWords, nodesAt, blocksAt, blockAt, nodeSize, nodeAt, memorySize}
+use Rattle.layout.specs.Places.{tableWords, nodesAt, blocksAt, blockAt, linkAt, nodeSize, nodeAt, memorySize}
 use Rattle.setup.specs.Fresh.{nextFree, freshBlock, freshBlocks, freshFront, freshNode, freshNodes, freshHead, freshMemory}
 
--- zeroes whose last word, or whose first, is stored anew
-last-of : (n v : ℕ) → set (replicate (suc n) 0) n v ≡ replicate n 0 ++ (v ∷ [])
-last-of zero v = refl
-last-of (suc n) v = ap (λ (l : List ℕ). 0 ∷ l) (last-of n v)
-
-pub last-set : (d : List ℕ) (v : ℕ) → 1 ≤ length d
-    → set (replicate (length d) 0) (length {A = ℕ} (replicate (length d) 0) - 1) v ≡ replicate (length d - 1) 0 ++ (v ∷ [])
-last-set d v h =
-    let e : length d ≡ suc (length d - 1) = omega arith in
-    rw (length-replicate {A = ℕ} (length d) 0) (ap (λ (k : ℕ). set (replicate k 0) (length d - 1) v) e ∙ last-of (length d - 1) v)
-
+-- zeroes whose first word is stored anew
 pub first-set : (d : List ℕ) (v : ℕ) → 1 ≤ length d → set (replicate (length d) 0) 0 v ≡ v ∷ replicate (length d - 1) 0
 first-set d v h =
     let e : length d ≡ suc (length d - 1) = omega arith in
     ap (λ (k : ℕ). set (replicate k 0) 0 v) e
 
--- a stretch has words before its blocks
-pub block-positive : (s : Settings) (f : ℕ) → f ≡ blockAt s 1 → 1 ≤ f - 0
-unfolding blockAt blocksAt
-block-positive s f e = omega arith
+-- a stretch has words
+pub some-words : (s : Settings) (d : List ℕ) → length d ≡ nodeSize s → 1 ≤ length d
+unfolding nodeSize blocksAt
+some-words s d e = omega arith
 
--- a node's stretch d with its front and its first k blocks laid
-unfoldable pub laidBlocks : Settings → List ℕ → ℕ → List ℕ
-laidBlocks s d k = (freshFront s ++ freshBlocks s k) ++ drop (blocksAt s + k * s .b) d
+-- a node's stretch whose first k blocks are linked, and whose other words behind the front are 0
+unfoldable pub linked : Settings → ℕ → List ℕ
+linked s k = (freshFront s ++ freshBlocks s k) ++ replicate ((s .m - k) * s .b) 0
 
 -- a memory d whose words before the stretches are h, with its first i stretches laid
 unfoldable pub laidNodes : Settings → List ℕ → List ℕ → ℕ → List ℕ
@@ -74,28 +65,68 @@ module _ (s : Settings) (r : InRange s) where
   unfolding freshHead
   length-head = refl
 
-  pub blocks-none : (d n : List ℕ) → n ≡ freshFront s ++ drop (blocksAt s) d → n ≡ laidBlocks s n 0
-  unfolding laidBlocks freshBlocks
-  blocks-none d n e =
-      let z : blocksAt s + 0 * s .b ≡ blocksAt s = omega (arith, zero-mul (s .b)) in
-      rw (z, append-nil, e, drop-at (freshFront s) (drop (blocksAt s) d) (blocksAt s) length-front)
+  -- the zeroes of one block and those behind it
+  next-zeroes : (k : ℕ) → k < s .m → replicate {A = ℕ} ((s .m - k) * s .b) 0 ≡ replicate (s .b - 1) 0 ++ (0 ∷ replicate ((s .m - (k + 1)) * s .b) 0)
+  next-zeroes k h =
+      let w = r .b .low in
+      let e : s .m - k ≡ suc (s .m - (k + 1)) = omega arith in
+      let f : (s .m - k) * s .b ≡ s .b - 1 + suc ((s .m - (k + 1)) * s .b) = ap (λ (x : ℕ). x * s .b) e ∙ omega (arith, suc-mul (s .m - (k + 1)) (s .b)) in
+      ap (λ (x : ℕ). replicate {A = ℕ} x 0) f ∙ sym (replicate-append-replicate (s .b - 1) (suc ((s .m - (k + 1)) * s .b)) 0)
 
-  pub blocks-more : (d : List ℕ) (k : ℕ)
-      → splice (laidBlocks s d k) (blockAt s (k + 1)) (blockAt s (k + 1) + s .b) (freshBlock s (k + 1)) ≡ laidBlocks s d (k + 1)
-  unfolding laidBlocks freshBlocks blockAt
-  blocks-more d k =
+  length-laid : (k : ℕ) → length (freshFront s ++ freshBlocks s k) ≡ blocksAt s + k * s .b
+  length-laid k = length-append (freshFront s) (freshBlocks s k) ∙ omega (arith, length-front, length-blocks k)
+
+  pub linked-none : (d : List ℕ) → length d ≡ nodeSize s → d ≡ 1 ∷ replicate (length d - 1) 0 → d ≡ linked s 0
+  unfolding linked freshFront freshBlocks nodeSize blocksAt
+  linked-none d z e =
+      let f : length d - 1 ≡ blocksAt s - 1 + s .m * s .b = omega arith in
+      let g : s .m - 0 ≡ s .m = omega arith in
+      e ∙ ap (λ (x : ℕ). 1 ∷ replicate {A = ℕ} x 0) f
+      ∙ ap (λ (l : List ℕ). 1 ∷ l) (sym (replicate-append-replicate (blocksAt s - 1) (s .m * s .b) 0))
+      ∙ ap (λ (l : List ℕ). l ++ replicate (s .m * s .b) 0) (sym (append-nil (1 ∷ replicate (blocksAt s - 1) 0)))
+      ∙ ap (λ (y : ℕ). (freshFront s ++ []) ++ replicate {A = ℕ} (y * s .b) 0) (sym g)
+
+  linked-more : (k at : ℕ) → k + 1 < s .m → at ≡ linkAt s (k + 1) → set (linked s k) at (k + 1 + 1) ≡ linked s (k + 1)
+  unfolding linked freshBlocks freshBlock nextFree blockAt
+  linked-more k at h e =
       let p : List ℕ = freshFront s ++ freshBlocks s k in
-      let a : ℕ = blocksAt s + k * s .b in
-      let e : blocksAt s + (k + 1 - 1) * s .b ≡ a = rw (add-sub-cancel k 1) in
-      let f : a + s .b ≡ blocksAt s + (k + 1) * s .b = rw (add-one k) (omega (arith, suc-mul k (s .b))) in
-      let z : length p ≡ a = length-append (freshFront s) (freshBlocks s k) ∙ omega (arith, length-front, length-blocks k) in
-      rw e
-      (grown d p (freshBlock s (k + 1)) a (a + s .b) z (omega arith)
-      ∙ rw (f, append-assoc (freshFront s) (freshBlocks s k) (freshBlock s (k + 1)), add-one k))
+      let zs : List ℕ = replicate (s .b - 1) 0 in
+      let rest : List ℕ = replicate ((s .m - (k + 1)) * s .b) 0 in
+      let x : ℕ = k + 1 + 1 in
+      let w = r .b .low in
+      let n : length (p ++ zs) ≡ at = length-append p zs ∙ omega (arith, length-laid k, length-replicate {A = ℕ} (s .b - 1) 0, e, ap (λ (y : ℕ). y * s .b) (add-sub-cancel k 1)) in
+      let q : nextFree s (suc k) ≡ x = rw (lt-ltb (suc k) (s .m) (omega arith)) (omega arith) in
+      ap (λ (l : List ℕ). set (p ++ l) at x) (next-zeroes k (omega arith))
+      ∙ ap (λ (l : List ℕ). set l at x) (sym (append-assoc p zs (0 ∷ rest)))
+      ∙ set-at (p ++ zs) 0 rest x at n
+      ∙ append-assoc p zs (x ∷ rest)
+      ∙ sym (append-assoc p (zs ++ (x ∷ [])) rest ∙ ap (λ (l : List ℕ). p ++ l) (append-assoc zs (x ∷ []) rest))
+      ∙ ap (λ (l : List ℕ). l ++ rest) (append-assoc (freshFront s) (freshBlocks s k) (zs ++ (x ∷ [])))
+      ∙ ap (λ (v : ℕ). (freshFront s ++ (freshBlocks s k ++ (zs ++ (v ∷ [])))) ++ rest) (sym q)
+      ∙ ap (λ (y : ℕ). (freshFront s ++ freshBlocks s y) ++ rest) (sym (add-one k))
 
-  pub blocks-all : (d : List ℕ) → length d ≡ nodeSize s → laidBlocks s d (s .m) ≡ freshNode s
-  unfolding laidBlocks freshNode nodeSize blocksAt
-  blocks-all d z = rw (drop-of-length-le d {i = blocksAt s + s .m * s .b} (omega arith), append-nil)
+  -- a turn of the loop, at block b
+  pub linked-turn : (b at : ℕ) → 1 ≤ b → b < s .m → at ≡ linkAt s b → set (linked s (b - 1)) at (b + 1) ≡ linked s (b + 1 - 1)
+  linked-turn b at h g e =
+      let d : b - 1 + 1 ≡ b = omega arith in
+      let f : b + 1 - 1 ≡ b = omega arith in
+      ap (λ (y : ℕ). set (linked s (b - 1)) at (y + 1)) (sym d) ∙ linked-more (b - 1) at (omega arith) (e ∙ ap (linkAt s) (sym d)) ∙ ap (linked s) (d ∙ sym f)
+
+  pub linked-all : (k : ℕ) → k + 1 ≡ s .m → linked s k ≡ freshNode s
+  unfolding linked freshNode freshBlocks freshBlock nextFree
+  linked-all k e =
+      let w = r .b .low in
+      let f : s .m ≡ suc k = omega arith in
+      let g : (s .m - k) * s .b ≡ s .b - 1 + 1 = ap (λ (y : ℕ). y * s .b) one ∙ omega arith in
+      let q : nextFree s (suc k) ≡ 0 = rw (le-ltb (suc k) (s .m) (omega arith)) in
+      ap (λ (y : ℕ). (freshFront s ++ freshBlocks s k) ++ replicate {A = ℕ} y 0) g
+      ∙ ap (λ (l : List ℕ). (freshFront s ++ freshBlocks s k) ++ l) (sym (replicate-append-replicate (s .b - 1) 1 0))
+      ∙ append-assoc (freshFront s) (freshBlocks s k) (replicate (s .b - 1) 0 ++ (0 ∷ []))
+      ∙ ap (λ (v : ℕ). freshFront s ++ (freshBlocks s k ++ (replicate (s .b - 1) 0 ++ (v ∷ [])))) (sym q)
+      ∙ ap (λ (y : ℕ). freshFront s ++ freshBlocks s y) (sym f)
+    where
+      one : s .m - k ≡ 1
+      one = omega arith
 
   pub nodes-none : (d : List ℕ) → d ≡ laidNodes s (take nodesAt d) d 0
   unfolding laidNodes freshNodes nodeAt
@@ -122,21 +153,6 @@ module _ (s : Settings) (r : InRange s) where
   nodes-all h d z = rw (drop-of-length-le d {i = 536 + 6 * nodeSize s} (omega arith), append-nil)
 
   -- ---- what comes back from the calls that lay a front, a block, a stretch
-  pub front-back : (d p : List ℕ) (f : ℕ) → f ≡ blockAt s 1 → f ≤ length d → p ≡ 1 ∷ replicate (length (part d 0 f) - 1) 0
-      → putMid 0 (f - 0) d p ≡ freshFront s ++ drop (blocksAt s) d
-  unfolding freshFront blockAt
-  front-back d p f e h q =
-      let z : f ≡ blocksAt s = omega (arith, zero-mul (s .b)) in
-      let w : f - 0 ≡ f = omega arith in
-      back 0 f d (omega arith) q ∙ rw (length-part d 0 f (omega arith) h, w, z)
-
-  pub block-back : (d n p : List ℕ) (k f x : ℕ) → f ≡ blockAt s (k + 1) → f + s .b ≤ length n → x ≡ nextFree s (k + 1) → n ≡ laidBlocks s d k
-      → p ≡ replicate (length (part n f (f + s .b)) - 1) 0 ++ (x ∷ []) → putMid f (f + s .b - f) n p ≡ laidBlocks s d (k + 1)
-  unfolding freshBlock
-  block-back d n p k f x e h i j q =
-      let z : f + s .b - f ≡ s .b = omega arith in
-      let w : p ≡ freshBlock s (k + 1) = q ∙ rw (length-part n f (f + s .b) (omega arith) h, z, i) in
-      back f (f + s .b) n (omega arith) w ∙ rw (e, j) (blocks-more d k)
 
   pub node-back : (h d m p : List ℕ) (i a n : ℕ) → a ≡ nodeAt s i → n ≡ nodeSize s → length h ≡ nodesAt → m ≡ laidNodes s h d i → p ≡ freshNode s
       → putMid a (a + n - a) m p ≡ laidNodes s h d (i + 1)

@@ -3,14 +3,14 @@ use answers::Answer;
 use settings::MadeSettings;
 use settings::Settings;
 ghost use mathlib.Core.Path.{_≡_};
-ghost use mathlib.Core.List.{List, [], _∷_, _++_};
-ghost use Prim.Native.Nat.{ℕ, _-_, _≤_};
+ghost use mathlib.Core.List.{_∷_, _++_};
+ghost use Prim.Native.Nat.{_-_, _≤_};
 ghost use lib.ListN.{length, take, replicate};
 ghost use Rattle.settings.specs.Made.{settingsOf};
 ghost use Rattle.settings.specs.Range.{InRange};
 ghost use Rattle.layout.specs.Places.{tableWords, tableAt, nodesAt};
 ghost use Rattle.layout.specs.Asked.{Stretch, Sized};
-ghost use Rattle.setup.specs.Fresh.{nextFree, freshHead, freshNode, freshNodes, freshMemory};
+ghost use Rattle.setup.specs.Fresh.{freshHead, freshNode, freshNodes, freshMemory};
 ghost use Rattle.setup.specs.Outcome.{setUp, told};
 
 pub enum SetUp {
@@ -34,50 +34,36 @@ fn lay_head(head: &mut [u32], s: Settings)
     head[4] = s.t as u32;
 }
 
-// A block whose words are 0, with its link.
-fn lay_block(block: &mut [u32], next: u32)
-    requires { ⌜ 1 ≤ length (now block) ⌝ }
-    ensures { λ _. ⌜ now (block .exit) ≡ replicate (length (now (block .entry)) - 1) 0 ++ (next ∷ []) ⌝ }
+// A stretch of zeroes, but for the first free block, 1.
+fn lay_front(node: &mut [u32])
+    requires { ⌜ 1 ≤ length (now node) ⌝ }
+    ensures { λ _. ⌜ now (node .exit) ≡ 1 ∷ replicate (length (now (node .entry)) - 1) 0 ⌝ }
 {
-    words::clear(block);
-    let last = block.len() - 1;
-    block[last] = next;
+    words::clear(node);
+    node[0] = 1;
 }
 
-// The block that follows b in the free list.
-fn next_free(s: Settings, b: usize) -> u32
-    requires { ⌜ InRange s ⌝ }
-    requires { ⌜ b ≤ s .m ⌝ }
-    ensures { λ r. ⌜ r ≡ nextFree s b ⌝ }
+// The links of the free list, in such a stretch; that of the last block stays 0.
+fn lay_links(node: &mut [u32], s: Settings)
+    requires { ⌜ Stretch s (now node) ⌝ }
+    requires { ⌜ now node ≡ 1 ∷ replicate (length (now node) - 1) 0 ⌝ }
+    ensures { λ _. ⌜ now (node .exit) ≡ freshNode s ⌝ }
 {
-    let next = b + 1;
-    if s.m < next { 0 } else { next as u32 }
+    let mut b = 1;
+    while b < s.m {
+        let at = layout::link_at(s, b);
+        b += 1;
+        node[at] = b as u32;
+    }
 }
 
-// The words of a stretch before its blocks: the first free block is 1, all else is 0.
-fn lay_front(front: &mut [u32])
-    requires { ⌜ 1 ≤ length (now front) ⌝ }
-    ensures { λ _. ⌜ now (front .exit) ≡ 1 ∷ replicate (length (now (front .entry)) - 1) 0 ⌝ }
-{
-    words::clear(front);
-    front[0] = 1;
-}
-
-// A node's stretch with no letter in it.
+// A node's stretch with no letter in it: filled with zeroes at one go, then linked.
 fn lay_node(node: &mut [u32], s: Settings)
     requires { ⌜ Stretch s (now node) ⌝ }
     ensures { λ _. ⌜ now (node .exit) ≡ freshNode s ⌝ }
 {
-    let front = layout::block_at(s, 1);
-    lay_front(&mut node[0..front]);
-    let words = s.b;
-    let mut b = 0;
-    while b < s.m {
-        b += 1;
-        let at = layout::block_at(s, b);
-        let end = at + words;
-        lay_block(&mut node[at..end], next_free(s, b));
-    }
+    lay_front(node);
+    lay_links(node, s);
 }
 
 // The six nodes' stretches.
