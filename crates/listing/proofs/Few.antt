@@ -1,10 +1,12 @@
 -- The letters of a list are few: a queue has no more than 255 items, and a task one task queue and six send queues. Assumes nothing.
-use mathlib.Core.Path.{_≡_, refl, ap}
+use mathlib.Core.Path.{_≡_, refl, sym, ap, _∙_}
+use mathlib.Core.Bool.{true, false}
 use mathlib.Core.List.{List, [], _∷_}
-use Prim.Native.Nat.{ℕ, zero, suc, _+_, _-_, _*_, _≤_, _<_}
+use Prim.Native.Nat.{ℕ, zero, suc, _+_, _*_, _/_, _%_, _≤_, _<_}
+use native.Mathlib.Nat.{mod-lt, div-lt-iff-lt-mul}
 use native.Mathlib.Omega.{arith}
 use lib.Dec.{eqb}
-use lib.ListN.{length, drop, length-append, length-drop}
+use lib.ListN.{length, getD, drop, length-append, length-drop}
 use Rattle.words.proofs.Lists.{split, both}
 use Rattle.settings.specs.declared.Settings.{Settings}
 use Rattle.layout.specs.Places.{nodes, taskQueues, sendAt, taskAt, node}
@@ -18,8 +20,9 @@ use Rattle.queues.proofs.Items.{length-live}
 use Rattle.queues.proofs.Views.{length-contents}
 use Rattle.sound.specs.Reading.{tableIn, sendItems, taskItems}
 use Rattle.listing.specs.List.{wordIn, handedOver, fromTask, fromSend, waiting, fromNodes, ofTask, ofTasks}
-use Rattle.listing.specs.Asked.{Asked, Laid}
+use Rattle.listing.specs.Asked.{Asked, Laid, placed, Low, keptOf, keptBelow, sentFrom, sentBelow}
 use Rattle.tasks.proofs.Laws.{seat-below}
+use Rattle.listing.proofs.Placing.{rows, so-low}
 use Rattle.listing.proofs.Given.{first-unbound, asked-table, asked-send, asked-task}
 
 module _ (s : Settings) (memory : List ℕ) (task i : ℕ) where
@@ -82,20 +85,60 @@ pub zero-none : (s : Settings) (memory : List ℕ) → Asked s memory → ofTask
 unfolding ofTask
 zero-none s memory a = rw (first-unbound (tableIn memory) (asked-table s memory a))
 
+-- ---- the letters of the tasks' queues, and those that wait
+pub length-sent : (s : Settings) (memory : List ℕ) (j : ℕ) (xs : List ℕ) → length (sentFrom s memory j xs) ≡ length xs
+unfolding sentFrom
+length-sent s memory j [] = refl
+length-sent s memory j (b ∷ xs) = ap suc (length-sent s memory j xs)
+
+module _ (s : Settings) (memory : List ℕ) (a : Asked s memory) where
+  pub few-of : (task : ℕ) → length (keptOf s memory task) ≤ 255
+  unfolding keptOf
+  few-of task =
+      split (isBound (tableIn memory) task)
+      (λ e.
+      let b = seat-below (tableIn memory) task (asked-table s memory a) e in
+      let i : ℕ = nodeOf (tableIn memory) task in
+      let q : ℕ = queueOf (tableIn memory) task in
+      rw e (omega (arith, length-kept s memory task i (taskItems s memory i q), few-kept s memory a i q (b .0) (b .1))))
+      (λ e. rw e (omega arith))
+
+  pub few-below : (n : ℕ) → length (keptBelow s memory n) ≤ n * 255
+  unfolding keptBelow
+  few-below zero = omega arith
+  few-below (suc n) = rw length-append (omega (arith, few-below n, few-of n))
+
+  pub few-sent : (c : ℕ) → c ≤ 36 → length (sentBelow s memory c) ≤ c * 255
+  unfolding sentBelow
+  few-sent zero h = omega arith
+  few-sent (suc c) h =
+      let i : c / 6 < 6 = div-lt-iff-lt-mul {k = 6} {x = c} {y = 6} (omega arith) .1 (omega arith) in
+      let j : c % 6 < 6 = mod-lt c {m = 6} (omega arith) in
+      rw length-append
+      (omega (arith, few-sent c (omega arith), length-sent s memory (c % 6) (waiting s memory (c / 6) (c % 6)), few-waiting s memory a (c / 6) (c % 6) i j))
+
 -- ---- how many letters there are so far
 module _ (s : Settings) (memory : List ℕ) (task i n r : ℕ) (out left : List ℕ) where
   pub so-kept : (k : Kind) (w : List ℕ) (q c : ℕ) → Laid (fromTask s memory task i (live (run k w q 0 c))) n out r left → r ≤ n + c
   so-kept k w q c l = omega (arith, l .count, length-kept s memory task i (run k w q 0 c), length-run k w q 0 c)
 
-  pub so-sent : (k : Kind) (w : List ℕ) (q f c : ℕ) → Laid (fromSend s memory task i (run k w q f c)) n out r left → r ≤ n + c
-  so-sent k w q f c l = omega (arith, l .count, length-send s memory task i (run k w q f c), length-run k w q f c)
-
 module _ (s : Settings) (memory : List ℕ) (a : Asked s memory) (n r : ℕ) (out left : List ℕ) where
   pub so-task : (task i q : ℕ) → i < nodes → q < taskQueues → Laid (fromTask s memory task i (live (taskItems s memory i q))) n out r left → r ≤ n + 255
   so-task task i q h g l = omega (arith, l .count, length-kept s memory task i (taskItems s memory i q), few-kept s memory a i q h g)
 
-  pub so-nodes : (task i j : ℕ) → i < nodes → j ≤ nodes → Laid (fromNodes s memory task i j) n out r left → r ≤ n + j * 255
-  so-nodes task i j h g l = omega (arith, l .count, few-nodes s memory a task i j h g)
+-- the rank of a task has room for one letter more
+pub so-sent : (s : Settings) (memory : List ℕ) (j : ℕ) (k : Kind) (w : List ℕ) (q f n : ℕ) (ranks₀ out₀ ranks out : List ℕ)
+    → rows ranks out ≡ placed (sentFrom s memory j (run k w q f n)) (rows ranks₀ out₀) → n < 255 → Low ranks₀ 255 → (t : ℕ) → getD ranks t 0 + 1 ≤ 4294967295
+so-sent s memory j k w q f n ranks₀ out₀ ranks out e h l t =
+    so-low (sentFrom s memory j (run k w q f n)) ranks₀ out₀ ranks out e 255 1 l (omega (arith, length-sent s memory j (run k w q f n), length-run k w q f n)) .few t
 
-  pub so-tasks : (k : ℕ) → Laid (ofTasks s memory k) n out r left → r ≤ n + k * 1785
-  so-tasks k l = omega (arith, l .count, few-tasks s memory a k)
+-- ---- how many letters a task's queue has
+module _ (s : Settings) (memory : List ℕ) (task : ℕ) where
+  pub none-kept : isBound (tableIn memory) task ≡ false → _≡_ {A = ℕ} 0 (length (keptOf s memory task))
+  unfolding keptOf
+  none-kept e = rw e
+
+  pub some-kept : (i q n : ℕ) → isBound (tableIn memory) task ≡ true → i ≡ nodeOf (tableIn memory) task → q ≡ queueOf (tableIn memory) task
+      → n ≡ length (live (taskItems s memory i q)) → n ≡ length (keptOf s memory task)
+  unfolding keptOf
+  some-kept i q n e ei eq l = rw (e, ← ei, ← eq) (l ∙ sym (length-task s memory task i (live (taskItems s memory i q))))

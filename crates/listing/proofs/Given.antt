@@ -1,31 +1,38 @@
 -- What a sound memory gives to the functions of list. Assumes nothing.
-use mathlib.Core.Path.{_≡_, sym, ap₂, _∙_}
+use mathlib.Core.Path.{_≡_, sym, ap, ap₂, _∙_}
 use mathlib.Core.Bool.{true, false}
 use mathlib.Core.List.{List}
 use Prim.Native.Nat.{ℕ, _+_, _-_, _≤_, _<_}
+use native.Mathlib.Nat.{add-zero}
 use native.Mathlib.Omega.{arith}
-use lib.Dec.{eqb}
+use lib.Dec.{eqb, ltb}
 use lib.ListN.{length, getD}
+use borrow.Author.Tests.{eqb-true, ltb-true}
 use Rattle.words.specs.Words.{part}
 use Rattle.words.proofs.Lists.{and-true}
 use Rattle.settings.specs.declared.Settings.{Settings}
-use Rattle.layout.specs.Places.{nodes, taskQueues, nodesAt, sendAt, taskAt, nodeSize, nodeAt, node}
-use Rattle.layout.specs.Numbers.{headerWords, sourceTaskWord, lengthWord}
+use Rattle.layout.specs.Places.{nodes, taskIds, taskQueues, nodesAt, sendAt, taskAt, itemsWord, gapWord, nodeSize, nodeAt, node}
+use Rattle.layout.specs.Numbers.{headerWords, sourceTaskWord, sourceNodeWord, destinationTaskWord, destinationNodeWord, lengthWord}
 use Rattle.layout.specs.Asked.{Stretch, Sized}
-use Rattle.words.proofs.Parts.{length-part}
+use Rattle.words.proofs.Parts.{getD-part, length-part}
 use Rattle.layout.proofs.Fits.{nodes-fit}
+use Rattle.layout.proofs.NodeRows.{by-send}
 use Rattle.layout.proofs.MemoryRows.{stretch-fits}
-use Rattle.tasks.specs.Table.{holdsNone, isBound, rightTable}
+use Rattle.tasks.specs.Table.{holdsNone, nodeOf, isBound, rightTable}
 use Rattle.tasks.proofs.Laws.{told-at, seat-below}
 use Rattle.tasks.specs.Seat.{seatOf}
 use Rattle.tasks.specs.declared.Seat.the-variants.{At}
 use Rattle.letters.specs.Letter.{word}
 use Rattle.letters.specs.Asked.{Lies}
 use Rattle.queues.specs.declared.Kind.{Kind}
-use Rattle.queues.specs.Queue.{sendKind, taskKind, items, itemAt, Queue}
+use Rattle.queues.specs.Queue.{sendKind, taskKind, start as startOf, items, slotFrom, itemAt, Queue}
+use Rattle.queues.specs.Moves.{IsSlot}
+use Rattle.queues.specs.Items.{live, gapFlag}
+use Rattle.queues.proofs.Items.{live-all}
 use Rattle.queues.proofs.Views.{length-contents, contents-item}
-use Rattle.sound.specs.Reading.{tableIn, sendItems, taskItems}
-use Rattle.sound.specs.Letters.{toldLength}
+use Rattle.sound.specs.Reading.{settingsIn, tableIn, sendItems, taskItems}
+use Rattle.sound.specs.Queues.{taskOf}
+use Rattle.sound.specs.Letters.{toldLength, wordsFrom, rightHeader, fromTo, rightPlace}
 use Rattle.sound.proofs.Gives.{gives-table, gives-sized, gives-send, gives-task}
 use Rattle.sound.proofs.Held.{Right, send-right, task-right}
 use Rattle.sound.proofs.Right.{right-least, right-lies, right-word, right-told}
@@ -43,6 +50,32 @@ sized-stretch s memory z i h =
       range = z .range;
       long = length-part memory (nodeAt s i) (nodeAt s i + nodeSize s) (omega arith) (omega (arith, stretch-fits s i h, z .long)) ∙ omega arith;
     }
+
+-- ---- the words of a node's queue as they stand in the memory
+module _ (s : Settings) (memory : List ℕ) (z : Sized s memory) (i : ℕ) (h : i < nodes) (at q : ℕ) (e : at ≡ nodeAt s i) where
+  node-word : (k : ℕ) → q + k < nodeSize s → getD memory (at + q + k) 0 ≡ getD (node s memory i) (q + k) 0
+  node-word k l =
+      let f = stretch-fits s i h in
+      let n = z .long in
+      let w : at + q + k ≡ nodeAt s i + (q + k) = omega arith in
+      ap (λ (x : ℕ). getD memory x 0) w ∙ sym (getD-part memory (nodeAt s i) (nodeAt s i + nodeSize s) (omega arith) (omega arith) (q + k) (omega arith))
+
+  pub started : q < nodeSize s → getD memory (at + q) 0 ≡ getD (node s memory i) q 0
+  started l = rw (add-zero (at + q), add-zero q) at (node-word 0 (omega arith))
+
+  pub counted : q + 2 ≤ nodeSize s → getD memory (at + q + itemsWord) 0 ≡ getD (node s memory i) (q + itemsWord) 0
+  counted l = node-word itemsWord (omega arith)
+
+  pub flagged : q + 3 ≤ nodeSize s → getD memory (at + q + gapWord) 0 ≡ getD (node s memory i) (q + gapWord) 0
+  flagged l = node-word gapWord (omega arith)
+
+-- an item of the queue
+pub item-is : (s : Settings) (memory : List ℕ) (z : Sized s memory) (i : ℕ) (h : i < nodes) (k : Kind) (q at start c r : ℕ) → at ≡ nodeAt s i → Queue k (node s memory i) q
+    → start ≡ startOf k (node s memory i) q → IsSlot k q start c r → getD memory (at + r) 0 ≡ itemAt k (node s memory i) q c
+item-is s memory z i h k q at start c r e u f l =
+    let n = sized-stretch s memory z i h .long in
+    started s memory z i h at r e (omega (arith, u .placed .lies, l .high))
+    ∙ ap (λ (x : ℕ). getD (node s memory i) x 0) (l .is ∙ ap (λ (x : ℕ). slotFrom k q x c) f)
 
 -- ---- a letter
 module _ (s : Settings) (memory : List ℕ) (i b : ℕ) (g : Begins s memory i b) where
@@ -73,6 +106,32 @@ module _ (s : Settings) (memory : List ℕ) (i b : ℕ) (g : Begins s memory i b
   pub told-least : (long : ℕ) → long ≡ wordIn s memory i b lengthWord → headerWords ≤ long
   told-least long f = omega (arith, f ∙ begins-told, begins-least)
 
+-- ---- a task that is bound on node k
+pub record Named (table : List ℕ) (k d : ℕ) : Type 0 where
+  pub bound : isBound table d ≡ true
+  pub sits : nodeOf table d ≡ k
+
+-- a letter of send queue k is for one
+right-named : (s : Settings) (w table : List ℕ) (i k : ℕ) → k < nodes → (b : ℕ) → Right s w table i (1 + k) b → Named table k (getD (wordsFrom s w b) destinationTaskWord 0)
+unfolding rightHeader rightPlace
+right-named s w table i k g b r =
+    let ws : List ℕ = wordsFrom s w b in
+    let x = and-true (isBound table (getD ws sourceTaskWord 0)) _ (r .header) in
+    let y = and-true (eqb (nodeOf table (getD ws sourceTaskWord 0)) (getD ws sourceNodeWord 0)) _ (x .1) in
+    let z = and-true (isBound table (getD ws destinationTaskWord 0)) _ (y .1) in
+    let d : 1 + k - 1 ≡ k = omega arith in
+    let f : fromTo i (1 + k - 1) ws ≡ true = sym (by-send (1 + k) true (fromTo i (1 + k - 1) ws) (fromTo i (1 + k - 7) ws) (eqb (getD ws destinationTaskWord 0) (taskOf table i (1 + k - 13))) true (omega arith) (omega arith)) ∙ r .place in
+    let v = and-true (eqb (getD ws sourceNodeWord 0) i) _ f in
+    record {
+      bound = z .0;
+      sits = eqb-true (nodeOf table (getD ws destinationTaskWord 0)) (getD ws destinationNodeWord 0) (z .1) ∙ eqb-true (getD ws destinationNodeWord 0) (1 + k - 1) (v .1) ∙ d;
+    }
+
+-- so its number is an id
+pub named-id : (table : List ℕ) (k d : ℕ) → Named table k d → d < taskIds
+unfolding isBound
+named-id table k d n = ltb-true d taskIds (and-true (ltb d taskIds) _ (n .bound) .0)
+
 -- ---- 'task 0 unbound'
 pub first-unbound : (t : List ℕ) → rightTable t ≡ true → isBound t 0 ≡ false
 unfolding rightTable isBound
@@ -100,6 +159,10 @@ module _ (s : Settings) (memory : List ℕ) (a : Asked s memory) where
     pub asked-task : (q : ℕ) → q < taskQueues → Queue (taskKind s) (node s memory i) (taskAt s q)
     asked-task q g = rw (a .is) (gives-task memory (a .holds) i h q g .queue)
 
+    -- 'the gap flag is 1 exactly when an item is 0, otherwise 0'
+    pub asked-flag : (q : ℕ) → q < taskQueues → getD (node s memory i) (taskAt s q + gapWord) 0 ≡ gapFlag (taskItems s memory i q)
+    asked-flag q g = rw (a .is) (gives-task memory (a .holds) i h q g .flag)
+
     -- each item of a send queue begins a letter
     module _ (k : ℕ) (g : k < nodes) (c : ℕ) (l : c < items (sendKind s) (node s memory i) (sendAt s k)) where
       pub asked-sent : Begins s memory i (itemAt (sendKind s) (node s memory i) (sendAt s k) c)
@@ -112,6 +175,17 @@ module _ (s : Settings) (memory : List ℕ) (a : Asked s memory) where
         where
           right : c < length (sendItems s memory i k) → Right s (node s memory i) (tableIn memory) i (1 + k) (getD (sendItems s memory i k) c 0)
           right d = rw (a .is) (send-right memory (a .holds) i h k g c (rw (a .is) at d))
+
+      -- which is for a task that is bound on the node that the queue is for
+      pub asked-named : Named (tableIn memory) k (wordIn s memory i (itemAt (sendKind s) (node s memory i) (sendAt s k) c) destinationTaskWord)
+      asked-named =
+          let u = asked-send k g in
+          let e = contents-item (sendKind s) (node s memory i) (sendAt s k) u c (omega (arith, u .count)) in
+          let d : c < length (sendItems s memory i k) = rw (length-contents (sendKind s) (node s memory i) (sendAt s k) u) l in
+          rw e (named d)
+        where
+          named : c < length (sendItems s memory i k) → Named (tableIn memory) k (wordIn s memory i (getD (sendItems s memory i k) c 0) destinationTaskWord)
+          named d = rw (a .is) (right-named (settingsIn memory) (node (settingsIn memory) memory i) (tableIn memory) i k g _ (send-right memory (a .holds) i h k g c (rw (a .is) at d)))
 
     -- and so does each item of a task queue that is not 0
     module _ (q : ℕ) (g : q < taskQueues) (c : ℕ) (l : c < items (taskKind s) (node s memory i) (taskAt s q)) where
@@ -126,34 +200,66 @@ module _ (s : Settings) (memory : List ℕ) (a : Asked s memory) where
           right : c < length (taskItems s memory i q) → (getD (taskItems s memory i q) c 0 ≡ 0 → ⊥) → Right s (node s memory i) (tableIn memory) i (13 + q) (getD (taskItems s memory i q) c 0)
           right d z = rw (a .is) (task-right memory (a .holds) i h q g c (rw (a .is) at d) (rw (a .is) at z))
 
--- ---- a queue whose kind and place the code has computed
-module _ (s : Settings) (memory : List ℕ) (a : Asked s memory) (i : ℕ) (h : i < nodes) (k′ : Kind) (q′ count : ℕ) (en : count ≡ items k′ (node s memory i) q′) where
-  module _ (q : ℕ) (g : q < taskQueues) (ek : k′ ≡ taskKind s) (eq : q′ ≡ taskAt s q) where
-    pub kept-count : count ≡ items (taskKind s) (node s memory i) (taskAt s q)
-    kept-count = en ∙ ap₂ (λ (x : Kind) (y : ℕ). items x (node s memory i) y) ek eq
+-- ---- a queue of node i as the code reads it: its kind and its word in the stretch, as computed, its start and its number of items
+pub record Read (s : Settings) (memory : List ℕ) (i : ℕ) (kind : Kind) (word : ℕ) (k : Kind) (q start count : ℕ) : Type 0 where
+  pub is : k ≡ kind
+  pub stands : q ≡ word
+  pub queue : Queue k (node s memory i) q
+  pub begins : start ≡ startOf k (node s memory i) q
+  pub many : count ≡ items kind (node s memory i) word
 
-    pub kept-queue : Queue k′ (node s memory i) q′
-    kept-queue = rw (ek, eq) (asked-task s memory a i h q g)
+module _ {s : Settings} {memory : List ℕ} {i : ℕ} {kind : Kind} {word : ℕ} {k : Kind} {q start count : ℕ} (r : Read s memory i kind word k q start count) where
+  pub read-place : (c : ℕ) → c < count → (c < k .slots) × (c < 255)
+  read-place c l =
+      let n : count ≡ items k (node s memory i) q = r .many ∙ ap₂ (λ (x : Kind) (y : ℕ). items x (node s memory i) y) (sym (r .is)) (sym (r .stands)) in
+      (omega (arith, r .queue .count), omega (arith, r .queue .count, r .queue .placed .small))
 
-    pub kept-place : (c : ℕ) → c < count → (c < k′ .slots) × (c < 255)
-    kept-place c l = let u = kept-queue in (omega (arith, u .count), omega (arith, u .count, u .placed .small))
+  pub read-item : (c b : ℕ) → b ≡ itemAt k (node s memory i) q c → b ≡ itemAt kind (node s memory i) word c
+  read-item c b e = e ∙ ap₂ (λ (x : Kind) (y : ℕ). itemAt x (node s memory i) y c) (r .is) (r .stands)
 
-    pub kept-begins : (c b : ℕ) → c < count → b ≡ itemAt k′ (node s memory i) q′ c → (b ≡ 0 → ⊥) → Begins s memory i b
-    kept-begins c b l e n =
-        let f : b ≡ itemAt (taskKind s) (node s memory i) (taskAt s q) c = e ∙ ap₂ (λ (x : Kind) (y : ℕ). itemAt x (node s memory i) y c) ek eq in
-        rw f (asked-kept s memory a i h q g c (omega (arith, kept-count)) (λ z. n (f ∙ z)))
+module _ (s : Settings) (memory : List ℕ) (a : Asked s memory) (i : ℕ) (h : i < nodes) where
+  abbrev stretch : List ℕ
+  stretch = node s memory i
 
-  module _ (k : ℕ) (g : k < nodes) (ek : k′ ≡ sendKind s) (eq : q′ ≡ sendAt s k) where
-    pub sent-count : count ≡ items (sendKind s) (node s memory i) (sendAt s k)
-    sent-count = en ∙ ap₂ (λ (x : Kind) (y : ℕ). items x (node s memory i) y) ek eq
+  read : (kind : Kind) (word : ℕ) → Queue kind stretch word → (k : Kind) (q at : ℕ) → k ≡ kind → q ≡ word → at ≡ nodeAt s i
+      → Read s memory i kind word k q (getD memory (at + q) 0) (getD memory (at + q + itemsWord) 0)
+  read kind word u k q at ek eq e =
+      let z = asked-sized s memory a in
+      let n = sized-stretch s memory z i h .long in
+      record {
+        is = ek;
+        stands = eq;
+        queue = rw (ek, eq) u;
+        begins = started s memory z i h at q e (omega (arith, u .placed .lies, u .placed .some));
+        many = counted s memory z i h at q e (omega (arith, u .placed .lies, u .placed .some)) ∙ ap (λ (x : ℕ). getD stretch (x + itemsWord) 0) eq;
+      }
 
-    pub sent-queue : Queue k′ (node s memory i) q′
-    sent-queue = rw (ek, eq) (asked-send s memory a i h k g)
+  module _ (q : ℕ) (g : q < taskQueues) {k : Kind} {at start count : ℕ} where
+    pub kept-begins : Read s memory i (taskKind s) (taskAt s q) k at start count → (c b : ℕ) → c < count → b ≡ itemAt k stretch at c → (b ≡ 0 → ⊥) → Begins s memory i b
+    kept-begins r c b l e n =
+        let f = read-item r c b e in
+        rw f (asked-kept s memory a i h q g c (omega (arith, r .many)) (λ z. n (f ∙ z)))
 
-    pub sent-place : (c : ℕ) → c < count → (c < k′ .slots) × (c < 255)
-    sent-place c l = let u = sent-queue in (omega (arith, u .count), omega (arith, u .count, u .placed .small))
+    -- where the gap flag, which stands in the memory behind the queue's start and items, is 0, each item begins a letter
+    pub kept-whole : Read s memory i (taskKind s) (taskAt s q) k at start count → (p : ℕ) → p ≡ nodeAt s i → getD memory (p + at + gapWord) 0 ≡ 0 → count ≡ length (live (taskItems s memory i q))
+    kept-whole r p e z =
+        let u = asked-task s memory a i h q g in
+        let n = sized-stretch s memory (asked-sized s memory a) i h .long in
+        let m = flagged s memory (asked-sized s memory a) i h p at e (omega (arith, u .placed .lies, r .stands)) in
+        let f : gapFlag (taskItems s memory i q) ≡ 0 = sym (asked-flag s memory a i h q g) ∙ ap (λ (x : ℕ). getD stretch (x + gapWord) 0) (sym (r .stands)) ∙ sym m ∙ z in
+        r .many ∙ sym (length-contents (taskKind s) stretch (taskAt s q) u) ∙ ap length (sym (live-all (taskItems s memory i q) f))
 
-    pub sent-begins : (c b : ℕ) → c < count → b ≡ itemAt k′ (node s memory i) q′ c → Begins s memory i b
-    sent-begins c b l e =
-        let f : b ≡ itemAt (sendKind s) (node s memory i) (sendAt s k) c = e ∙ ap₂ (λ (x : Kind) (y : ℕ). itemAt x (node s memory i) y c) ek eq in
-        rw f (asked-sent s memory a i h k g c (omega (arith, sent-count)))
+  module _ (j : ℕ) (g : j < nodes) {k : Kind} {at start count : ℕ} (r : Read s memory i (sendKind s) (sendAt s j) k at start count) where
+    pub sent-begins : (c b : ℕ) → c < count → b ≡ itemAt k stretch at c → Begins s memory i b
+    sent-begins c b l e = rw (read-item r c b e) (asked-sent s memory a i h j g c (omega (arith, r .many)))
+
+    pub sent-named : (c b : ℕ) → c < count → b ≡ itemAt k stretch at c → (d : ℕ) → d ≡ wordIn s memory i b destinationTaskWord → d < taskIds
+    sent-named c b l e d n = rw (n, read-item r c b e) (named-id (tableIn memory) j _ (asked-named s memory a i h j g c (omega (arith, r .many))))
+
+  pub read-task : (q : ℕ) → q < taskQueues → (k : Kind) (at p : ℕ) → k ≡ taskKind s → at ≡ taskAt s q → p ≡ nodeAt s i
+      → Read s memory i (taskKind s) (taskAt s q) k at (getD memory (p + at) 0) (getD memory (p + at + itemsWord) 0)
+  read-task q g = read (taskKind s) (taskAt s q) (asked-task s memory a i h q g)
+
+  pub read-send : (j : ℕ) → j < nodes → (k : Kind) (at p : ℕ) → k ≡ sendKind s → at ≡ sendAt s j → p ≡ nodeAt s i
+      → Read s memory i (sendKind s) (sendAt s j) k at (getD memory (p + at) 0) (getD memory (p + at + itemsWord) 0)
+  read-send j g = read (sendKind s) (sendAt s j) (asked-send s memory a i h j g)

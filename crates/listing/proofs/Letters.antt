@@ -1,13 +1,12 @@
--- The letters of a run of items: of one item, of one item more, of the items that wait. Assumes nothing.
+-- The letters of a run of items, laid and placed: of one item, of one item more, of a task, of the items that wait. Assumes nothing.
 use mathlib.Core.Path.{_≡_, refl, sym, ap, ap₂, _∙_}
 use mathlib.Core.Bool.{true, false, cond}
 use mathlib.Core.List.{List, [], _∷_, _++_}
-use Prim.Native.Nat.{ℕ, zero, suc, _+_, _-_, _≤_}
+use Prim.Native.Nat.{ℕ, zero, suc, _+_, _-_, _/_, _%_, _≤_, _<_}
 use native.Mathlib.Nat.{zero-add}
 use native.Mathlib.Numerals.{add-one}
 use native.Mathlib.Omega.{arith}
-use lib.Dec.{eqb}
-use lib.ListN.{drop}
+use lib.ListN.{length, getD, set, drop, length-append}
 use borrow.Author.Tests.{eq-eqb, ne-eqb}
 use Rattle.words.proofs.Lists.{split}
 use Rattle.settings.specs.declared.Settings.{Settings}
@@ -17,27 +16,24 @@ use Rattle.layout.specs.Numbers.{destinationTaskWord}
 use Rattle.queues.specs.declared.Kind.{Kind}
 use Rattle.queues.specs.Queue.{sendKind, items, itemAt, run}
 use Rattle.queues.specs.Items.{live}
-use Rattle.queues.proofs.Items.{live-append}
+use Rattle.queues.proofs.Items.{live-append, live-snoc, live-gap}
 use Rattle.queues.proofs.Ring.{run-more}
 use Rattle.sound.specs.Reading.{stageOf, otherOf, tableIn, taskItems}
 use Rattle.listing.specs.declared.Shown.{Shown}
-use Rattle.listing.specs.List.{wordIn, shown, handedOver, fromTask, fromSend, fromNodes, ofTasks, ofTask, waiting}
-use Rattle.listing.specs.Asked.{Laid}
+use Rattle.listing.specs.List.{wordIn, shown, handedOver, fromTask, waiting}
+use Rattle.listing.specs.Asked.{laidIn, Laid, Rows, placed, keptOf, keptBelow, sentFrom, sentBelow}
 use Rattle.listing.proofs.Laying.{laid-none, laid-join}
+use Rattle.listing.proofs.Placing.{rows, none-left, placed-append, placed-task}
+
+-- the items up to place c, and that at place c
+run-one : (k : Kind) (w : List ℕ) (q c b : ℕ) → b ≡ itemAt k w q c → run k w q 0 (c + 1) ≡ run k w q 0 c ++ b ∷ []
+run-one k w q c b e = run-more k w q 0 c ∙ ap (λ (z : ℕ). run k w q 0 c ++ z ∷ []) (ap (itemAt k w q) (zero-add c) ∙ sym e)
 
 module _ (s : Settings) (memory : List ℕ) (task i : ℕ) where
   pub task-append : (xs ys : List ℕ) → fromTask s memory task i (xs ++ ys) ≡ fromTask s memory task i xs ++ fromTask s memory task i ys
   unfolding fromTask
   task-append [] ys = refl
   task-append (b ∷ xs) ys = ap (λ (l : List Shown). shown s memory task 1 i b ∷ l) (task-append xs ys)
-
-  pub send-append : (xs ys : List ℕ) → fromSend s memory task i (xs ++ ys) ≡ fromSend s memory task i xs ++ fromSend s memory task i ys
-  unfolding fromSend
-  send-append [] ys = refl
-  send-append (b ∷ xs) ys =
-      split (eqb (wordIn s memory i b destinationTaskWord) task)
-      (λ e. rw e (ap (λ (l : List Shown). shown s memory task 2 i b ∷ l) (send-append xs ys)))
-      (λ e. rw e (send-append xs ys))
 
   -- ---- one item
   module _ (b n : ℕ) (out : List ℕ) where
@@ -49,63 +45,29 @@ module _ (s : Settings) (memory : List ℕ) (task i : ℕ) where
     unfolding fromTask live
     kept-one h left l = rw (ne-eqb b 0 h) l
 
-    pub sent-none : (wordIn s memory i b destinationTaskWord ≡ task → ⊥) → Laid (fromSend s memory task i (b ∷ [])) n out n out
-    unfolding fromSend
-    sent-none h = rw (ne-eqb (wordIn s memory i b destinationTaskWord) task h) (laid-none n out)
-
-    pub sent-one : wordIn s memory i b destinationTaskWord ≡ task → (left : List ℕ) → Laid (shown s memory task 2 i b ∷ []) n out (n + 1) left → Laid (fromSend s memory task i (b ∷ [])) n out (n + 1) left
-    unfolding fromSend
-    sent-one e left l = rw (eq-eqb (wordIn s memory i b destinationTaskWord) task e) l
-
   -- ---- one item more of a queue, which stands at place c
-  module _ (k : Kind) (w : List ℕ) (q n r t : ℕ) (out mid left : List ℕ) (k′ : Kind) (q′ c b : ℕ) (ek : k′ ≡ k) (eq : q′ ≡ q) (eb : b ≡ itemAt k′ w q′ c) where
-    item-is : b ≡ itemAt k w q c
-    item-is = eb ∙ ap₂ (λ (x : Kind) (y : ℕ). itemAt x w y c) ek eq
-
+  module _ (k : Kind) (w : List ℕ) (q n r t : ℕ) (out mid left : List ℕ) (c b : ℕ) (eb : b ≡ itemAt k w q c) where
     pub kept-more : Laid (fromTask s memory task i (live (run k w q 0 c))) n out r mid
         → Laid (fromTask s memory task i (live (b ∷ []))) r mid t left → Laid (fromTask s memory task i (live (run k w q 0 (c + 1)))) n out t left
     kept-more x y =
-        let e : run k w q 0 (c + 1) ≡ run k w q 0 c ++ b ∷ [] =
-        run-more k w q 0 c ∙ ap (λ (z : ℕ). run k w q 0 c ++ z ∷ []) (ap (itemAt k w q) (zero-add c) ∙ sym item-is) in
-        rw (e, live-append (run k w q 0 c) (b ∷ []), task-append (live (run k w q 0 c)) (live (b ∷ []))) (laid-join x y)
+        rw (run-one k w q c b eb, live-append (run k w q 0 c) (b ∷ []), task-append (live (run k w q 0 c)) (live (b ∷ []))) (laid-join x y)
 
-    pub sent-more : (f : ℕ) → f ≤ c → Laid (fromSend s memory task i (run k w q f (c - f))) n out r mid
-        → Laid (fromSend s memory task i (b ∷ [])) r mid t left → Laid (fromSend s memory task i (run k w q f (c + 1 - f))) n out t left
-    sent-more f h x y =
-        let d : c + 1 - f ≡ c - f + 1 = omega arith in
-        let p : f + (c - f) ≡ c = omega arith in
-        let e : run k w q f (c + 1 - f) ≡ run k w q f (c - f) ++ b ∷ [] =
-        ap (run k w q f) d ∙ run-more k w q f (c - f) ∙ ap (λ (z : ℕ). run k w q f (c - f) ++ z ∷ []) (ap (itemAt k w q) p ∙ sym item-is) in
-        rw (e, send-append (run k w q f (c - f)) (b ∷ [])) (laid-join x y)
+-- ---- the number of letters of a run of items, with one item more
+module _ (k : Kind) (w : List ℕ) (q c b n : ℕ) (eb : b ≡ itemAt k w q c) (en : n ≡ length (live (run k w q 0 c))) where
+  pub count-live : (b ≡ 0 → ⊥) → n + 1 ≡ length (live (run k w q 0 (c + 1)))
+  count-live h = rw (run-one k w q c b eb, live-snoc (run k w q 0 c) b h) (omega (arith, en, length-append (live (run k w q 0 c)) (b ∷ [])))
 
-  -- ---- one node more, one task more
-  module _ (n r t : ℕ) (out mid left : List ℕ) where
-    pub nodes-more : (j : ℕ) → Laid (fromNodes s memory task i j) n out r mid → Laid (fromSend s memory task j (waiting s memory i j)) r mid t left → Laid (fromNodes s memory task i (j + 1)) n out t left
-    unfolding fromNodes
-    nodes-more j a b = rw (add-one j) (laid-join a b)
+  pub count-gap : b ≡ 0 → n ≡ length (live (run k w q 0 (c + 1)))
+  count-gap h = rw (run-one k w q c b eb, live-gap (run k w q 0 c) b h) en
 
-module _ (s : Settings) (memory : List ℕ) (n r t : ℕ) (out mid left : List ℕ) where
-  pub tasks-more : (k : ℕ) → Laid (ofTasks s memory k) n out r mid → Laid (ofTask s memory k) r mid t left → Laid (ofTasks s memory (k + 1)) n out t left
-  unfolding ofTasks
-  tasks-more k a b = rw (add-one k) (laid-join a b)
+pub count-none : (k : Kind) (w : List ℕ) (q : ℕ) → _≡_ {A = ℕ} 0 (length (live (run k w q 0 0)))
+unfolding live run
+count-none k w q = refl
 
--- ---- no item, no node, no task
-module _ (s : Settings) (memory : List ℕ) (n : ℕ) (out : List ℕ) where
-  pub kept-start : (task i : ℕ) (k : Kind) (w : List ℕ) (q : ℕ) → Laid (fromTask s memory task i (live (run k w q 0 0))) n out n out
-  unfolding fromTask live run
-  kept-start task i k w q = laid-none n out
-
-  pub sent-start : (task i : ℕ) (k : Kind) (w : List ℕ) (q f : ℕ) → Laid (fromSend s memory task i (run k w q f (f - f))) n out n out
-  unfolding fromSend run
-  sent-start task i k w q f = let e : f - f ≡ 0 = omega arith in rw e (laid-none n out)
-
-  pub nodes-start : (task i : ℕ) → Laid (fromNodes s memory task i 0) n out n out
-  unfolding fromNodes
-  nodes-start task i = laid-none n out
-
-  pub tasks-start : Laid (ofTasks s memory 0) n out n out
-  unfolding ofTasks
-  tasks-start = laid-none n out
+-- ---- no item
+pub kept-start : (s : Settings) (memory : List ℕ) (n : ℕ) (out : List ℕ) (task i : ℕ) (k : Kind) (w : List ℕ) (q : ℕ) → Laid (fromTask s memory task i (live (run k w q 0 0))) n out n out
+unfolding fromTask live run
+kept-start s memory n out task i k w q = laid-none n out
 
 -- ---- a run without its first item
 run-rest : (k : Kind) (w : List ℕ) (q n : ℕ) → drop 1 (run k w q 0 n) ≡ run k w q 1 (n - 1)
@@ -140,13 +102,68 @@ module _ (memory : List ℕ) (i j : ℕ) where
   unfolding handedOver
   out-one e f = rw (eq-eqb (stageOf memory i) 3 e, eq-eqb (otherOf memory i) j f)
 
--- ---- a task's letters
-module _ (s : Settings) (memory : List ℕ) (task n : ℕ) (out : List ℕ) where
-  pub task-none : isBound (tableIn memory) task ≡ false → Laid (ofTask s memory task) n out n out
-  unfolding ofTask
-  task-none e = rw e (laid-none n out)
+-- ---- a task's letters, at its rank
+module _ (s : Settings) (memory : List ℕ) (task : ℕ) (ranks out : List ℕ) where
+  pub task-empty : (n : ℕ) → n ≡ length (keptOf s memory task) → n ≡ 0 → rows ranks out ≡ placed (keptOf s memory task) (rows ranks out)
+  unfolding placed
+  task-empty n e z = rw (none-left (keptOf s memory task) (sym e ∙ z))
 
-  pub task-both : (i q r t : ℕ) (mid left : List ℕ) → isBound (tableIn memory) task ≡ true → i ≡ nodeOf (tableIn memory) task → q ≡ queueOf (tableIn memory) task
-      → Laid (fromTask s memory task i (live (taskItems s memory i q))) n out r mid → Laid (fromNodes s memory task i nodes) r mid t left → Laid (ofTask s memory task) n out t left
-  unfolding ofTask
-  task-both i q r t mid left e ei eq x y = rw e (rw (ei, eq) at (laid-join x y))
+  pub task-none : isBound (tableIn memory) task ≡ false → rows ranks out ≡ placed (keptOf s memory task) (rows ranks out)
+  unfolding keptOf placed
+  task-none e = rw e
+
+  pub task-all : (i q r : ℕ) (left : List ℕ) → task < length ranks → isBound (tableIn memory) task ≡ true → i ≡ nodeOf (tableIn memory) task → q ≡ queueOf (tableIn memory) task
+      → Laid (fromTask s memory task i (live (taskItems s memory i q))) (getD ranks task 0) out r left → rows (set ranks task r) left ≡ placed (keptOf s memory task) (rows ranks out)
+  unfolding keptOf
+  task-all i q r left h e ei eq l =
+      rw (e, ← ei, ← eq)
+      (ap₂ (λ (k : ℕ) (o : List ℕ). rows (set ranks task k) o) (l .count) (l .words)
+      ∙ placed-task s memory task i (live (taskItems s memory i q)) ranks out h)
+
+-- ---- one task more, one item more, one queue more
+module _ (s : Settings) (memory : List ℕ) (start mid end : Rows) where
+  pub tasks-more : (n : ℕ) → mid ≡ placed (keptBelow s memory n) start → end ≡ placed (keptOf s memory n) mid → end ≡ placed (keptBelow s memory (n + 1)) start
+  unfolding keptBelow
+  tasks-more n a b = rw (add-one n) (b ∙ ap (placed (keptOf s memory n)) a ∙ sym (placed-append (keptBelow s memory n) (keptOf s memory n) start))
+
+  pub queues-more : (c : ℕ) → mid ≡ placed (sentBelow s memory c) start → end ≡ placed (sentFrom s memory (c % nodes) (waiting s memory (c / nodes) (c % nodes))) mid
+      → end ≡ placed (sentBelow s memory (c + 1)) start
+  unfolding sentBelow
+  queues-more c a b =
+      rw (add-one c)
+      (b ∙ ap (placed (sentFrom s memory (c % nodes) (waiting s memory (c / nodes) (c % nodes)))) a
+      ∙ sym (placed-append (sentBelow s memory c) (sentFrom s memory (c % nodes) (waiting s memory (c / nodes) (c % nodes))) start))
+
+module _ (s : Settings) (memory : List ℕ) (j : ℕ) where
+  pub sent-append : (xs ys : List ℕ) → sentFrom s memory j (xs ++ ys) ≡ sentFrom s memory j xs ++ sentFrom s memory j ys
+  unfolding sentFrom
+  sent-append [] ys = refl
+  sent-append (b ∷ xs) ys = ap (λ (l : List Shown). shown s memory (wordIn s memory j b destinationTaskWord) 2 j b ∷ l) (sent-append xs ys)
+
+  -- the item at place c, which is for task d
+  module _ (k : Kind) (w : List ℕ) (q : ℕ) (start : Rows) (ranks out left : List ℕ) (c b d : ℕ) (eb : b ≡ itemAt k w q c) (ed : d ≡ wordIn s memory j b destinationTaskWord) where
+    pub sent-more : (f : ℕ) → f ≤ c → rows ranks out ≡ placed (sentFrom s memory j (run k w q f (c - f))) start
+        → left ≡ laidIn (shown s memory d 2 j b ∷ []) (getD ranks d 0) out
+        → rows (set ranks d (getD ranks d 0 + 1)) left ≡ placed (sentFrom s memory j (run k w q f (c + 1 - f))) start
+    unfolding sentFrom placed shown
+    sent-more f h x y =
+        let n : c + 1 - f ≡ c - f + 1 = omega arith in
+        let p : f + (c - f) ≡ c = omega arith in
+        let e : run k w q f (c + 1 - f) ≡ run k w q f (c - f) ++ b ∷ [] =
+        ap (run k w q f) n ∙ run-more k w q f (c - f) ∙ ap (λ (z : ℕ). run k w q f (c - f) ++ z ∷ []) (ap (itemAt k w q) p ∙ sym eb) in
+        rw (e, sent-append (run k w q f (c - f)) (b ∷ []), placed-append (sentFrom s memory j (run k w q f (c - f))) (sentFrom s memory j (b ∷ [])) start, ← x, ← ed)
+        (ap (rows (set ranks d (getD ranks d 0 + 1))) y)
+
+-- ---- none yet
+module _ (s : Settings) (memory : List ℕ) (r : Rows) where
+  pub tasks-start : r ≡ placed (keptBelow s memory 0) r
+  unfolding keptBelow placed
+  tasks-start = refl
+
+  pub queues-start : r ≡ placed (sentBelow s memory 0) r
+  unfolding sentBelow placed
+  queues-start = refl
+
+  pub sent-start : (j : ℕ) (k : Kind) (w : List ℕ) (q f : ℕ) → r ≡ placed (sentFrom s memory j (run k w q f (f - f))) r
+  unfolding sentFrom placed run
+  sent-start j k w q f = let e : f - f ≡ 0 = omega arith in rw e

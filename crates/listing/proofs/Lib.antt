@@ -1,7 +1,11 @@
 pub mod Laying
+pub mod Placing
+pub mod Spread
 pub mod Letters
 pub mod Given
 pub mod Few
+pub mod ByTask
+pub mod Adding
 pub mod Outcomes
 pub mod Examples
 pub mod Refused

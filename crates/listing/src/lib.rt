@@ -7,28 +7,39 @@ ghost use mathlib.Core.Path.{_≡_};
 ghost use mathlib.Core.Bool.{true, cond};
 ghost use mathlib.Core.List.{[], _∷_};
 ghost use Prim.Native.Nat.{_*_, _+_, _≤_, _<_};
-ghost use lib.ListN.{length, set};
-ghost use lib.Seq.{sets};
-ghost use Rattle.layout.specs.Places.{nodes, taskQueues, nodesAt, node};
-ghost use Rattle.layout.specs.Numbers.{listWords, headerWords};
+ghost use lib.ListN.{length, getD};
+ghost use Rattle.words.specs.Count.{sum};
+ghost use Rattle.layout.specs.Places.{nodes, taskIds, taskQueues, nodesAt, node};
+ghost use Rattle.layout.specs.Numbers.{headerWords};
 ghost use Rattle.layout.specs.Asked.{Sized};
-ghost use Rattle.queues.specs.Queue.{Queue, items, itemAt};
+ghost use Rattle.queues.specs.Queue.{Queue, start as startOf, itemAt};
 ghost use Rattle.queues.specs.Items.{live};
 ghost use Rattle.sound.specs.Reading.{settingsIn, taskItems};
 ghost use Rattle.sound.specs.Sound.{sound};
 ghost use Rattle.listing.specs.List.{
-  laidOut,
   wordIn,
   shown,
   handedOver,
   fromTask,
-  fromSend,
   waiting,
-  fromNodes,
-  ofTask,
-  listed,
 };
-ghost use Rattle.listing.specs.Asked.{Asked, Begins, Few, Laid};
+ghost use Rattle.listing.specs.Asked.{
+  Asked,
+  Begins,
+  Few,
+  laidIn,
+  Laid,
+  Rows,
+  placed,
+  Low,
+  keptOf,
+  Kept,
+  keptBelow,
+  sentFrom,
+  sentBelow,
+  lettersOf,
+  Ranked,
+};
 ghost use Rattle.listing.specs.Outcome.{told, list};
 
 // A letter that the list shows: destination, source, place (1 task queue, 2 send queue), node holding it, first block, body length.
@@ -48,29 +59,6 @@ pub enum Listed {
     OutTooShort(u32),
 }
 
-// A word at a place of out, where out has that place.
-fn put(out: &mut [u32], at: usize, word: u32)
-    ensures { λ _. ⌜ now (out .exit) ≡ set (now (out .entry)) at word ⌝ }
-{
-    if at < out.len() {
-        out[at] = word;
-    }
-}
-
-// The six words of a letter, behind the n letters that stand in out.
-fn lay(out: &mut [u32], n: usize, x: Shown)
-    requires { ⌜ Few n 1 ⌝ }
-    ensures { λ _. ⌜ now (out .exit) ≡ sets (now (out .entry)) (n * listWords) (laidOut (x ∷ [])) ⌝ }
-{
-    let at = n * 6;
-    put(out, at, x.destination);
-    put(out, at + 1, x.source);
-    put(out, at + 2, x.place);
-    put(out, at + 3, x.holder);
-    put(out, at + 4, x.block);
-    put(out, at + 5, x.body);
-}
-
 // Word k of the header of the letter that block b begins in node i.
 fn word_in(memory: &[u32], s: Settings, i: u32, b: u32, k: usize) -> u32
     requires { ⌜ Begins s (now memory) i b ⌝ }
@@ -82,29 +70,18 @@ fn word_in(memory: &[u32], s: Settings, i: u32, b: u32, k: usize) -> u32
     letters::word_of(&memory[a..e], s, b, k)
 }
 
-// The number of items of the queue at word q of node i.
-fn count_in(memory: &[u32], s: Settings, i: u32, k: Kind, q: usize) -> usize
+// The item at place c of the queue at word q of node i, whose start slot is `start`.
+fn item_in(memory: &[u32], s: Settings, i: u32, k: Kind, q: usize, start: usize, c: usize) -> u32
     requires { ⌜ Sized s (now memory) ⌝ }
     requires { ⌜ i < nodes ⌝ }
     requires { ⌜ Queue k (node s (now memory) i) q ⌝ }
-    ensures { λ r. ⌜ r ≡ items k (node s (now (memory .entry)) i) q ⌝ }
-{
-    let a = layout::node_at(s, i as usize);
-    let e = a + layout::node_size(s);
-    queues::items_of(&memory[a..e], k, q)
-}
-
-// The item at place c of the queue at word q of node i.
-fn item_in(memory: &[u32], s: Settings, i: u32, k: Kind, q: usize, c: usize) -> u32
-    requires { ⌜ Sized s (now memory) ⌝ }
-    requires { ⌜ i < nodes ⌝ }
-    requires { ⌜ Queue k (node s (now memory) i) q ⌝ }
+    requires { ⌜ start ≡ startOf k (node s (now memory) i) q ⌝ }
     requires { ⌜ c < k .slots ⌝ }
     ensures { λ r. ⌜ r ≡ itemAt k (node s (now (memory .entry)) i) q c ⌝ }
 {
     let a = layout::node_at(s, i as usize);
-    let e = a + layout::node_size(s);
-    queues::item(&memory[a..e], k, q, c)
+    let at = queues::slot_at(k, q, start, c);
+    memory[a + at]
 }
 
 // What the list shows of the letter that block b begins in node i, at a place, for a task.
@@ -121,6 +98,33 @@ fn shown_at(memory: &[u32], s: Settings, task: u32, place: u32, i: u32, b: u32) 
         holder: i,
         block: b,
         body: length - 5,
+    }
+}
+
+// The six words of the letter that block b begins in node i, behind the n letters that stand in out, where out has room for them.
+fn list_letter(
+    memory: &[u32],
+    s: Settings,
+    task: u32,
+    place: u32,
+    i: u32,
+    b: u32,
+    out: &mut [u32],
+    n: usize,
+)
+    requires { ⌜ Begins s (now memory) i b ⌝ }
+    requires { ⌜ Few n 1 ⌝ }
+    ensures { λ _. ⌜ now (out .exit) ≡ laidIn (shown s (now (memory .entry)) task place i b ∷ []) n (now (out .entry)) ⌝ }
+{
+    let at = n * 6;
+    if at + 6 <= out.len() {
+        let x = shown_at(memory, s, task, place, i, b);
+        out[at] = x.destination;
+        out[at + 1] = x.source;
+        out[at + 2] = x.place;
+        out[at + 3] = x.holder;
+        out[at + 4] = x.block;
+        out[at + 5] = x.body;
     }
 }
 
@@ -141,30 +145,7 @@ fn list_kept(
     if b == 0 {
         return n;
     }
-    let x = shown_at(memory, s, task, 1, i, b);
-    lay(out, n, x);
-    n + 1
-}
-
-// The letter that an item of node j's send queue begins, behind the n letters in out, if it is for the task.
-fn list_sent(
-    memory: &[u32],
-    s: Settings,
-    task: u32,
-    j: u32,
-    b: u32,
-    out: &mut [u32],
-    n: usize,
-) -> usize
-    requires { ⌜ Begins s (now memory) j b ⌝ }
-    requires { ⌜ Few n 1 ⌝ }
-    ensures { λ r. ⌜ Laid (fromSend s (now (memory .entry)) task j (b ∷ [])) n (now (out .entry)) r (now (out .exit)) ⌝ }
-{
-    if word_in(memory, s, j, b, 2) != task {
-        return n;
-    }
-    let x = shown_at(memory, s, task, 2, j, b);
-    lay(out, n, x);
+    list_letter(memory, s, task, 1, i, b, out, n);
     n + 1
 }
 
@@ -185,15 +166,66 @@ fn list_task_queue(
 {
     let k = queues::task_kind(s);
     let at = layout::task_at(s, q as usize);
-    let count = count_in(memory, s, i, k, at);
+    let a = layout::node_at(s, i as usize) + at;
+    let start = memory[a] as usize;
+    let count = memory[a + 1] as usize;
     let mut r = n;
     let mut c = 0;
     while c < count {
-        let b = item_in(memory, s, i, k, at, c);
+        let b = item_in(memory, s, i, k, at, start, c);
         r = list_kept(memory, s, task, i, b, out, r);
         c += 1;
     }
     r
+}
+
+// The letters of a task's queue, of which there are so many, at the task's rank.
+fn list_task(
+    memory: &[u32],
+    s: Settings,
+    task: u32,
+    letters: u32,
+    ranks: &mut [u32; 256],
+    out: &mut [u32],
+)
+    requires { ⌜ Asked s (now memory) ⌝ }
+    requires { ⌜ task < taskIds ⌝ }
+    requires { ⌜ letters ≡ length (keptOf s (now memory) task) ⌝ }
+    requires { ⌜ Low (now ranks) 255 ⌝ }
+    ensures { λ _. ⌜ record { ranks = now (ranks .exit); out = now (out .exit) } ≡ placed (keptOf s (now (memory .entry)) task) (record { ranks = now (ranks .entry); out = now (out .entry) }) ⌝ }
+{
+    if letters == 0 {
+        return;
+    }
+    let Seat::At(i, q) = tasks::seat_of(&memory[24..536], task) else {
+        return;
+    };
+    let t = task as usize;
+    let n = ranks[t];
+    let r = list_task_queue(memory, s, task, i, q, out, n as usize);
+    ranks[t] = r as u32;
+}
+
+// The letters of all tasks' queues, each task's at its rank.
+fn list_tasks(
+    memory: &[u32],
+    s: Settings,
+    kept: &[u32; 256],
+    ranks: &mut [u32; 256],
+    out: &mut [u32],
+)
+    requires { ⌜ Asked s (now memory) ⌝ }
+    requires { ⌜ Kept s (now memory) (now kept) ⌝ }
+    requires { ⌜ Low (now ranks) (taskIds * 255) ⌝ }
+    ensures { λ _. ⌜ record { ranks = now (ranks .exit); out = now (out .exit) } ≡ placed (keptBelow s (now (memory .entry)) taskIds) (record { ranks = now (ranks .entry); out = now (out .entry) }) ⌝ }
+{
+    let mut task = 0;
+    while task < 256 {
+        let t = task as usize;
+        let letters = kept[t];
+        list_task(memory, s, task, letters, ranks, out);
+        task += 1;
+    }
 }
 
 // How many items of node j's send queue for node i are left out: the first, where it has been handed over.
@@ -212,90 +244,126 @@ fn left_out(memory: &[u32], i: u32, j: u32) -> usize
     1
 }
 
-// The task's letters that wait in node j's send queue for node i, first to last, behind the n letters in out.
+// The letters that wait in node j's send queue for node i, first to last, each at its task's rank.
 fn list_send_queue(
     memory: &[u32],
     s: Settings,
-    task: u32,
     i: u32,
     j: u32,
+    ranks: &mut [u32; 256],
     out: &mut [u32],
-    n: usize,
-) -> usize
+)
     requires { ⌜ Asked s (now memory) ⌝ }
     requires { ⌜ (i < nodes) × (j < nodes) ⌝ }
-    requires { ⌜ Few n 255 ⌝ }
-    ensures { λ r. ⌜ Laid (fromSend s (now (memory .entry)) task j (waiting s (now (memory .entry)) i j)) n (now (out .entry)) r (now (out .exit)) ⌝ }
+    requires { ⌜ Low (now ranks) 255 ⌝ }
+    ensures { λ _. ⌜ record { ranks = now (ranks .exit); out = now (out .exit) } ≡ placed (sentFrom s (now (memory .entry)) j (waiting s (now (memory .entry)) i j)) (record { ranks = now (ranks .entry); out = now (out .entry) }) ⌝ }
 {
     let k = queues::send_kind(s);
     let at = layout::send_at(s, i as usize);
-    let count = count_in(memory, s, j, k, at);
+    let a = layout::node_at(s, j as usize) + at;
+    let start = memory[a] as usize;
+    let count = memory[a + 1] as usize;
     let first = left_out(memory, i, j);
-    let mut r = n;
     let mut c = first;
     while c < count {
-        let b = item_in(memory, s, j, k, at, c);
-        r = list_sent(memory, s, task, j, b, out, r);
+        let b = item_in(memory, s, j, k, at, start, c);
+        let task = word_in(memory, s, j, b, 2);
+        let t = task as usize;
+        let n = ranks[t];
+        ranks[t] = n + 1;
+        list_letter(memory, s, task, 2, j, b, out, n as usize);
         c += 1;
     }
-    r
 }
 
-// The task's letters that wait for node i in nodes 0 to 5, behind the n letters in out.
-fn list_nodes(memory: &[u32], s: Settings, task: u32, i: u32, out: &mut [u32], n: usize) -> usize
+// The letters that wait in all send queues, each at its task's rank: for node 0 in nodes 0 to 5, then for node 1, and so on.
+fn list_nodes(memory: &[u32], s: Settings, ranks: &mut [u32; 256], out: &mut [u32])
     requires { ⌜ Asked s (now memory) ⌝ }
-    requires { ⌜ i < nodes ⌝ }
-    requires { ⌜ Few n (nodes * 255) ⌝ }
-    ensures { λ r. ⌜ Laid (fromNodes s (now (memory .entry)) task i nodes) n (now (out .entry)) r (now (out .exit)) ⌝ }
+    requires { ⌜ Low (now ranks) (nodes * nodes * 255) ⌝ }
+    ensures { λ _. ⌜ record { ranks = now (ranks .exit); out = now (out .exit) } ≡ placed (sentBelow s (now (memory .entry)) (nodes * nodes)) (record { ranks = now (ranks .entry); out = now (out .entry) }) ⌝ }
 {
-    let mut r = n;
-    let mut j = 0;
-    while j < 6 {
-        r = list_send_queue(memory, s, task, i, j, out, r);
-        j += 1;
+    let mut c = 0;
+    while c < 36 {
+        list_send_queue(memory, s, c / 6, c % 6, ranks, out);
+        c += 1;
     }
-    r
 }
 
-// The letters of a task, behind the n letters in out.
-fn list_task(memory: &[u32], s: Settings, task: u32, out: &mut [u32], n: usize) -> usize
+// The number of letters of node i's task queue q: of its items, where its gap flag is 0.
+fn kept_in(memory: &[u32], s: Settings, i: u32, q: u32) -> u32
     requires { ⌜ Asked s (now memory) ⌝ }
-    requires { ⌜ Few n (255 + nodes * 255) ⌝ }
-    ensures { λ r. ⌜ Laid (ofTask s (now (memory .entry)) task) n (now (out .entry)) r (now (out .exit)) ⌝ }
+    requires { ⌜ (i < nodes) × (q < taskQueues) ⌝ }
+    ensures { λ r. ⌜ r ≡ length (live (taskItems s (now (memory .entry)) i q)) ⌝ }
+{
+    let k = queues::task_kind(s);
+    let at = layout::task_at(s, q as usize);
+    let a = layout::node_at(s, i as usize) + at;
+    let start = memory[a] as usize;
+    let count = memory[a + 1] as usize;
+    if memory[a + 2] == 0 {
+        return count as u32;
+    }
+    let mut letters = 0;
+    let mut c = 0;
+    while c < count {
+        let b = item_in(memory, s, i, k, at, start, c);
+        if b != 0 {
+            letters += 1;
+        }
+        c += 1;
+    }
+    letters
+}
+
+// The number of letters of a task's queue.
+fn kept_of(memory: &[u32], s: Settings, task: u32) -> u32
+    requires { ⌜ Asked s (now memory) ⌝ }
+    ensures { λ r. ⌜ r ≡ length (keptOf s (now (memory .entry)) task) ⌝ }
 {
     let Seat::At(i, q) = tasks::seat_of(&memory[24..536], task) else {
-        return n;
+        return 0;
     };
-    let kept = list_task_queue(memory, s, task, i, q, out, n);
-    list_nodes(memory, s, task, i, out, kept)
+    kept_in(memory, s, i, q)
 }
 
-// The letters of all tasks, from the front of out on, and their number; a word that out has no place for is not written.
-fn list_tasks(memory: &[u32], s: Settings, out: &mut [u32]) -> usize
+// Notes how many letters each task's queue has, and turns the number that wait for each task into its rank; answers how many letters there are.
+fn add_up(memory: &[u32], s: Settings, kept: &mut [u32; 256], ranks: &mut [u32; 256]) -> u32
     requires { ⌜ Asked s (now memory) ⌝ }
-    ensures { λ r. ⌜ Laid (listed s (now (memory .entry))) 0 (now (out .entry)) r (now (out .exit)) ⌝ }
+    requires { ⌜ (length (now kept) ≡ taskIds) × (length (now ranks) ≡ taskIds) ⌝ }
+    requires { ⌜ sum taskIds (lettersOf s (now memory) (now ranks)) ≤ 4294967295 ⌝ }
+    ensures { λ _. ⌜ Kept s (now (memory .entry)) (now (kept .exit)) ⌝ }
+    ensures { λ r. ⌜ Ranked (lettersOf s (now (memory .entry)) (now (ranks .entry))) (now (ranks .exit)) r ⌝ }
 {
     let mut n = 0;
     let mut task = 0;
     while task < 256 {
-        n = list_task(memory, s, task, out, n);
+        let t = task as usize;
+        let letters = kept_of(memory, s, task);
+        let sent = ranks[t];
+        kept[t] = letters;
+        ranks[t] = n;
+        n += letters + sent;
         task += 1;
     }
     n
 }
 
-// List, of a sound memory: a first time with no place to write, for the number of letters, and then into out.
+// List, of a sound memory: the letters of each task are counted, then each is laid at its place.
 fn list_sound(memory: &[u32], out: &mut [u32]) -> Listed
     requires { ⌜ sound (now memory) ≡ true ⌝ }
     ensures { λ r. ⌜ record { answer = r; out = now (out .exit) } ≡ list (now (memory .entry)) (now (out .entry)) ⌝ }
 {
     let s = sound::settings_in(memory);
-    let letters = list_tasks(memory, s, &mut out[0..0]);
-    if out.len() < letters * 6 {
-        return Listed::OutTooShort(letters as u32);
+    let mut kept = [0u32; 256];
+    let mut ranks = [0u32; 256];
+    list_nodes(memory, s, &mut ranks, &mut out[0..0]);
+    let letters = add_up(memory, s, &mut kept, &mut ranks);
+    if out.len() < letters as usize * 6 {
+        return Listed::OutTooShort(letters);
     }
-    list_tasks(memory, s, out);
-    Listed::Done(letters as u32)
+    list_tasks(memory, s, &kept, &mut ranks, out);
+    list_nodes(memory, s, &mut ranks, out);
+    Listed::Done(letters)
 }
 
 // The answer's number and values.

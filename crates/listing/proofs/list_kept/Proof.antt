@@ -1,7 +1,7 @@
 -- `listing::list_kept` meets its contract. Assumes nothing.
-use borrow.Author.Needs.{needs}
 use Rattle.listing.proofs.Letters.{kept-none, kept-one}
 use Rattle.listing.proofs.Laying.{laid-one}
+use borrow.Author.Needs.{needs}
 use Rattle.listing.proofs.list_kept.Statement.{statement}
 use Rattle.listing.proofs.list_kept.Tie as tie
 
@@ -10,15 +10,20 @@ returns c =
     let x = c .before .before .before .args in
     kept-none (x .s) (x .memory .now) (x .task) (x .i) (x .b) (x .n) (x .out .now) (c .if1 .taken)
 
-shown-at-requires : tie.Need-shown-at-requires
-shown-at-requires c κs = c .before .before .before .pre .0 (c .if1 .left)
+list-letter-requires : tie.Need-list-letter-requires
+list-letter-requires c κs = (c .before .before .before .before .pre .0 (c .before .if1 .left), search needs)
 
 returns-2 : tie.Need-returns-2
 returns-2 c =
-    let x = c .before .before .before .before .before .before .before .before .args in
-    kept-one (x .s) (x .memory .now) (x .task) (x .i) (x .b) (x .n) (x .out .now) (c .before .before .before .before .before .if1 .left) _
-    (rw (c .before .before .before .before .shown-at .ensures) at (laid-one _ (x .n) (x .out .now) _ (c .before .before .lay .ensures)))
+    let x = c .before .before .before .before .before .before .before .args in
+    kept-one (x .s) (x .memory .now) (x .task) (x .i) (x .b) (x .n) (x .out .now) (c .before .before .before .before .if1 .left) _ (laid-one _ (x .n) (x .out .now) _ (c .before .before .list-letter .ensures))
 
 pub list-kept-spec : {M : Type 1} → statement M
 list-kept-spec =
-    tie.close (tie.spec returns shown-at-requires (λ c κs. search needs) (λ c. search needs) (λ c. search needs) returns-2)
+    tie.close
+    (tie.spec
+    returns
+    list-letter-requires
+    (λ c. search needs)
+    (λ c. search needs)
+    returns-2)
