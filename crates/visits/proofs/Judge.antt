@@ -14,7 +14,7 @@ use Rattle.settings.specs.declared.Settings.{Settings}
 use Rattle.layout.specs.Places.{blockAt}
 use Rattle.layout.proofs.NodeRows.{by-head, by-send, by-ack, by-task}
 use Rattle.letters.specs.Letter.{word}
-use Rattle.letters.proofs.Steps.{near-in, near-is}
+use Rattle.letters.proofs.Steps.{near-is}
 use Rattle.tasks.specs.Table.{holdsNone, nodeOf, isBound, rightTable}
 use Rattle.tasks.proofs.Laws.{seat-within}
 use Rattle.queues.specs.Items.{live}
@@ -113,9 +113,6 @@ module _ (s : Settings) (l t seats : List ℕ) (i p : ℕ) (g : Placing s l t se
 
   -- the first block carries them
   module _ (wide : 5 < s .b) where
-    pub near-block : (1 ≤ b) × (b ≤ s .m)
-    near-block = near-in s l 0 b (word-lies s l b readable 0 (omega arith)) (omega arith)
-
     pub header-near : (at : ℕ) → at ≡ blockAt s b → (r : Bool)
         → r ≡ isOn t (getD l at 0) (getD l (at + 1) 0) && (isOn t (getD l (at + 2) 0) (getD l (at + 3) 0) && isAtPlace seats i p (getD l (at + 1) 0) (getD l (at + 2) 0) (getD l (at + 3) 0))
         → r ≡ rightHeader t ws && rightPlace t i p ws

@@ -2,12 +2,13 @@
 use mathlib.Core.Path.{_≡_}
 use mathlib.Core.Bool.{Bool, true, _&&_}
 use mathlib.Core.List.{List}
-use Prim.Native.Nat.{ℕ, _-_, _<_}
-use lib.Dec.{eqb}
+use Prim.Native.Nat.{ℕ, _+_, _-_, _*_, _<_}
+use lib.Dec.{eqb, leb, ltb}
 use lib.ListN.{length, getD}
 use Rattle.words.specs.Words.{all}
 use Rattle.settings.specs.declared.Settings.{Settings}
 use Rattle.layout.specs.Places.{nodes}
+use Rattle.layout.specs.Numbers.{headerWords, greatestLength}
 use Rattle.layout.specs.Rows.{byRow}
 use Rattle.layout.specs.Asked.{Stretch}
 use Rattle.tasks.specs.Table.{nodeOf, isBound, rightTable}
@@ -28,6 +29,10 @@ pub record Readable (s : Settings) (words : List ℕ) (b : ℕ) : Type 0 where
   pub stretch : Stretch s words
   pub ends : endsWell s words b ≡ true
   pub long : rightLength s words b ≡ true
+
+-- 'a valid length, the blocks it needs', by the words that a letter's n blocks carry: they hold its k words, and one block fewer does not
+unfoldable pub fitsLength : Settings → ℕ → ℕ → Bool
+fitsLength s n k = leb headerWords k && (leb k greatestLength && (leb k (n * (s .b - 1)) && ltb (n * (s .b - 1)) (k + (s .b - 1))))
 
 -- 'bound tasks on their nodes'
 unfoldable pub isOn : List ℕ → ℕ → ℕ → Bool

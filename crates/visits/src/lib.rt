@@ -5,6 +5,7 @@ ghost use mathlib.Core.Bool.{true, _&&_};
 ghost use mathlib.Core.List.{[], _∷_};
 ghost use Prim.Native.Nat.{_≤_, _<_};
 ghost use lib.ListN.{length};
+ghost use Rattle.settings.specs.Range.{InRange};
 ghost use Rattle.layout.specs.Asked.{Stretch};
 ghost use Rattle.tasks.specs.Table.{rightTable};
 ghost use Rattle.queues.specs.Items.{live};
@@ -18,6 +19,7 @@ ghost use Rattle.visits.specs.Letters.{
   isOn,
   isFromTo,
   isAtPlace,
+  fitsLength,
   lettersRight,
   Judged,
 };
@@ -107,18 +109,14 @@ pub fn visit(node: &[u32], s: Settings, marks: &mut [u8], b: u32, owed: usize) -
     Walk::Ended(left - 1)
 }
 
-// Whether the letter that block b begins has a valid length and the blocks it needs; it has `count`. The words that they
-// carry are compared with the length, without a division.
-fn is_right_length(node: &[u32], s: Settings, b: u32, count: usize) -> bool
-    requires { ⌜ Whole s (now node) b count ⌝ }
-    ensures { λ r. ⌜ r ≡ rightLength s (now (node .entry)) b ⌝ }
+// Whether n is a valid length of a letter that has `count` blocks, and needs them: the words that they carry are compared with it, without a division.
+fn fits_length(s: Settings, count: usize, n: usize) -> bool
+    requires { ⌜ InRange s ⌝ }
+    requires { ⌜ count ≤ 1024 ⌝ }
+    ensures { λ r. ⌜ r ≡ fitsLength s count n ⌝ }
 {
     let room = s.b - 1;
     let carried = count * room;
-    if carried < 5 {
-        return false;
-    }
-    let n = letters::told_length(node, s, b) as usize;
     if n < 5 {
         return false;
     }
@@ -129,6 +127,18 @@ fn is_right_length(node: &[u32], s: Settings, b: u32, count: usize) -> bool
         return false;
     }
     carried < n + room
+}
+
+// Whether the letter that block b begins has a valid length and the blocks it needs; it has `count`.
+fn is_right_length(node: &[u32], s: Settings, b: u32, count: usize) -> bool
+    requires { ⌜ Whole s (now node) b count ⌝ }
+    ensures { λ r. ⌜ r ≡ rightLength s (now (node .entry)) b ⌝ }
+{
+    if count < blocks::needs_of(s, 5) {
+        return false;
+    }
+    let n = letters::told_length(node, s, b) as usize;
+    fits_length(s, count, n)
 }
 
 // Whether the task is bound, and on that node: in a right table the node's number tells that the task is bound.
@@ -199,8 +209,7 @@ fn is_right_head(
     is_at_place(seats, i, p, from, task, to)
 }
 
-// Whether the letter that block b begins has a header of bound tasks on their nodes, right for its place. A block of six
-// words or more carries the header's.
+// Whether the letter that block b begins has a header of bound tasks on their nodes, right for its place.
 fn is_right_header(
     node: &[u32],
     s: Settings,
@@ -214,19 +223,6 @@ fn is_right_header(
     requires { ⌜ Readable s (now node) b ⌝ }
     ensures { λ r. ⌜ r ≡ (rightHeader (now (table .entry)) (wordsFrom s (now (node .entry)) b) && rightPlace (now (table .entry)) i p (wordsFrom s (now (node .entry)) b)) ⌝ }
 {
-    if 5 < s.b {
-        let at = layout::block_at(s, b as usize);
-        return is_right_head(
-            table,
-            seats,
-            i,
-            p,
-            node[at],
-            node[at + 1],
-            node[at + 2],
-            node[at + 3],
-        );
-    }
     let source = letters::word_of(node, s, b, 0);
     let from = letters::word_of(node, s, b, 1);
     let task = letters::word_of(node, s, b, 2);
@@ -235,7 +231,7 @@ fn is_right_header(
 }
 
 // Whether the letter that block b begins at place p of node i is right and none of its blocks has a mark;
-// marks them. Block 0 is a gap and begins none.
+// marks them. Block 0 is a gap and begins none. A block of six words or more carries the header's.
 fn is_right_letter(
     node: &[u32],
     s: Settings,
@@ -256,7 +252,25 @@ fn is_right_letter(
     let Walk::Ended(left) = visit(node, s, marks, b, s.m) else {
         return false;
     };
-    if !is_right_length(node, s, b, s.m - left) {
+    let count = s.m - left;
+    if 5 < s.b {
+        let at = layout::block_at(s, b as usize);
+        let length = node[at + 4] as usize;
+        if !fits_length(s, count, length) {
+            return false;
+        }
+        return is_right_head(
+            table,
+            seats,
+            i,
+            p,
+            node[at],
+            node[at + 1],
+            node[at + 2],
+            node[at + 3],
+        );
+    }
+    if !is_right_length(node, s, b, count) {
         return false;
     }
     is_right_header(node, s, table, seats, i, p, b)
