@@ -1,11 +1,13 @@
 -- What each test of a queue decides, and what a turn of each loop passes. Assumes nothing.
 use mathlib.Core.Path.{_≡_, refl, sym, ap, _∙_}
 use mathlib.Core.Bool.{Bool, true, false, _&&_, _||_, not}
-use mathlib.Core.List.{List, [], _∷_}
+use mathlib.Core.List.{List, [], _++_}
 use Prim.Native.Nat.{ℕ, suc, _+_, _-_, _≤_, _<_}
+use native.Mathlib.Numerals.{add-one}
 use native.Mathlib.Omega.{arith}
 use lib.Dec.{eqb, leb, ltb, leb·zero}
-use lib.ListN.{length, getD}
+use lib.ListN.{length, getD, drop, drop-of-length-le}
+use lib.Seq.{drop-cons}
 use borrow.Author.Tests.{eq-eqb, ne-eqb, le-leb, lt-leb, le-ltb}
 use Rattle.words.specs.Words.{all}
 use Rattle.words.proofs.Lists.{split, and-true, and-false}
@@ -15,8 +17,41 @@ use Rattle.queues.specs.Queue.{start, items, itemAt, run, contents}
 use Rattle.queues.specs.Items.{gapFlag}
 use Rattle.queues.proofs.Ring.{length-run}
 use Rattle.sound.specs.Queues.{inShape}
-use Rattle.sound.proofs.Tests.{no-second, all-none, all-step, all-same}
+use Rattle.sound.proofs.Tests.{no-second, all-none, all-step, all-same, all-append}
 use Rattle.shapes.specs.Shape.{itemsWithin, rightPost, rightSeat}
+
+-- ---- the items of a row, one after the other: what is left from the i-th on decides
+module _ (least most : ℕ) (xs : List ℕ) (i : ℕ) (r : Bool) (e : r ≡ itemsWithin least most (drop i xs)) where
+  pub within-low : i < length xs → getD xs i 0 < least → false ≡ r
+  unfolding itemsWithin
+  within-low h g = sym (e ∙ ap (all _) (drop-cons xs i 0 h) ∙ all-step _ _ _ ∙ rw (lt-leb least (getD xs i 0) g))
+
+  pub within-high : i < length xs → most < getD xs i 0 → false ≡ r
+  unfolding itemsWithin
+  within-high h g =
+      sym (e ∙ ap (all _) (drop-cons xs i 0 h) ∙ all-step _ _ _
+      ∙ rw (lt-leb (getD xs i 0) most g, and-false (leb least (getD xs i 0))))
+
+  pub within-more : i < length xs → least ≤ getD xs i 0 → getD xs i 0 ≤ most → r ≡ itemsWithin least most (drop (i + 1) xs)
+  unfolding itemsWithin
+  within-more h g f =
+      rw (add-one i) (e ∙ ap (all _) (drop-cons xs i 0 h) ∙ all-step _ _ _ ∙ rw (le-leb least (getD xs i 0) g, le-leb (getD xs i 0) most f))
+
+  pub within-none : length xs ≤ i → true ≡ r
+  unfolding itemsWithin
+  within-none h = sym (e ∙ ap (all _) (drop-of-length-le xs h) ∙ all-none _)
+
+-- those of two rows, one behind the other
+module _ (least most : ℕ) (xs ys zs : List ℕ) (e : zs ≡ xs ++ ys) (r : Bool) (v : r ≡ itemsWithin least most xs) where
+  two : itemsWithin least most zs ≡ itemsWithin least most xs && itemsWithin least most ys
+  unfolding itemsWithin
+  two = ap (all _) e ∙ all-append _ xs ys
+
+  pub runs-no : r ≡ false → false ≡ itemsWithin least most zs
+  runs-no f = sym (two ∙ rw (sym v ∙ f))
+
+  pub runs-yes : r ≡ true → (b : Bool) → b ≡ itemsWithin least most ys → b ≡ itemsWithin least most zs
+  runs-yes f b u = u ∙ sym (two ∙ rw (sym v ∙ f))
 
 module _ (k : Kind) (l : List ℕ) (q : ℕ) where
   pub shape-start : k .slots ≤ start k l q → false ≡ inShape k l q
@@ -26,35 +61,6 @@ module _ (k : Kind) (l : List ℕ) (q : ℕ) where
   pub shape-items : k .slots < items k l q → false ≡ inShape k l q
   unfolding inShape
   shape-items h = no-second (ltb (start k l q) (k .slots)) _ (rw (lt-leb (items k l q) (k .slots) h))
-
-  -- ---- the items from place i on, of n
-  pub run-step : (i n : ℕ) → i < n → run k l q i (n - i) ≡ itemAt k l q i ∷ run k l q (i + 1) (n - (i + 1))
-  unfolding run
-  run-step i n h = let e : n - i ≡ suc (n - (i + 1)) = omega arith in rw e
-
-  pub run-none : (i n : ℕ) → n ≤ i → run k l q i (n - i) ≡ []
-  unfolding run
-  run-none i n h = let e : n - i ≡ 0 = omega arith in rw e
-
-  module _ (least most : ℕ) (i n : ℕ) (r : Bool) (e : r ≡ itemsWithin least most (run k l q i (n - i))) where
-    pub within-low : i < n → itemAt k l q i < least → false ≡ r
-    unfolding itemsWithin
-    within-low h g = sym (e ∙ ap (all _) (run-step i n h) ∙ all-step _ _ _ ∙ rw (lt-leb least (itemAt k l q i) g))
-
-    pub within-high : i < n → most < itemAt k l q i → false ≡ r
-    unfolding itemsWithin
-    within-high h g =
-        sym (e ∙ ap (all _) (run-step i n h) ∙ all-step _ _ _
-        ∙ rw (lt-leb (itemAt k l q i) most g, and-false (leb least (itemAt k l q i))))
-
-    pub within-more : i < n → least ≤ itemAt k l q i → itemAt k l q i ≤ most → r ≡ itemsWithin least most (run k l q (i + 1) (n - (i + 1)))
-    unfolding itemsWithin
-    within-more h g f =
-        e ∙ ap (all _) (run-step i n h) ∙ all-step _ _ _ ∙ rw (le-leb least (itemAt k l q i) g, le-leb (itemAt k l q i) most f)
-
-    pub within-none : n ≤ i → true ≡ r
-    unfolding itemsWithin
-    within-none h = sym (e ∙ ap (all _) (run-none i n h) ∙ all-none _)
 
   -- ---- a send or acknowledge queue
   module _ (m : ℕ) (own : Bool) where

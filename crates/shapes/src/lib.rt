@@ -68,15 +68,13 @@ fn is_in_shape(node: &[u32], k: Kind, q: usize) -> bool
     is_clear(node, k, q, first, count)
 }
 
-// Whether the items lie between the two, both included.
-fn are_within(node: &[u32], k: Kind, q: usize, least: usize, most: usize) -> bool
-    requires { ⌜ Queue k (now node) q ⌝ }
-    ensures { λ r. ⌜ r ≡ itemsWithin least most (contents k (now (node .entry)) q) ⌝ }
+// Whether the items of a row lie between the two, both included.
+fn are_within(row: &[u32], least: usize, most: usize) -> bool
+    ensures { λ r. ⌜ r ≡ itemsWithin least most (now (row .entry)) ⌝ }
 {
-    let count = queues::items_of(node, k, q);
     let mut i: usize = 0;
-    while i < count {
-        let b = queues::item(node, k, q, i) as usize;
+    while i < row.len() {
+        let b = row[i] as usize;
         if b < least {
             return false;
         }
@@ -86,6 +84,28 @@ fn are_within(node: &[u32], k: Kind, q: usize, least: usize, most: usize) -> boo
         i += 1;
     }
     true
+}
+
+// The same of the items of a queue, as they stand: one run of words, or two where they run round.
+fn are_items_within(node: &[u32], k: Kind, q: usize, least: usize, most: usize) -> bool
+    requires { ⌜ Queue k (now node) q ⌝ }
+    ensures { λ r. ⌜ r ≡ itemsWithin least most (contents k (now (node .entry)) q) ⌝ }
+{
+    let first = node[q] as usize;
+    let count = node[q + 1] as usize;
+    let end = first + count;
+    let base = q + k.head;
+    let a = base + first;
+    if k.slots < end {
+        let e = base + k.slots;
+        if !are_within(&node[a..e], least, most) {
+            return false;
+        }
+        let f = base + (end - k.slots);
+        return are_within(&node[base..f], least, most);
+    }
+    let e = base + end;
+    are_within(&node[a..e], least, most)
 }
 
 // Whether a queue with no items is in shape.
@@ -110,7 +130,7 @@ fn is_filled(node: &[u32], k: Kind, q: usize, least: usize, most: usize) -> bool
     if !is_in_shape(node, k, q) {
         return false;
     }
-    are_within(node, k, q, least, most)
+    are_items_within(node, k, q, least, most)
 }
 
 // Whether a send or acknowledge queue that has items is right; `own`: it is the node's queue to itself.

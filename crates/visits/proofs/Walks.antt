@@ -23,7 +23,9 @@ use Rattle.visits.specs.declared.Walk.{Walk}
 use Rattle.visits.specs.declared.Walk.the-variants.{Ended, Bad}
 use Rattle.visits.specs.declared.Stepped.{Stepped}
 use Rattle.visits.specs.declared.Stepped.the-variants.{On, Stuck}
-use Rattle.visits.specs.Marks.{fresh, marked, endsWithin, clean, Visited, Linked, stepsOn, stepped, steppedOn, toldBy, Walked}
+use Rattle.visits.specs.declared.Went.{Went}
+use Rattle.visits.specs.declared.Went.the-variants.{On as Further, Over}
+use Rattle.visits.specs.Marks.{fresh, marked, endsWithin, clean, Visited, Linked, stepsOn, stepped, steppedOn, toldBy, Walked, Gone}
 
 -- ---- lists joined
 pub fresh-append : (marks l m : List ℕ) → fresh marks (l ++ m) ≡ fresh marks l && fresh (marked marks l) m
@@ -183,6 +185,27 @@ module _ (words : List ℕ) (before width m n b : ℕ) (marks : List ℕ) (low :
 
       pub follow-last : next ≡ 0 → Walked words before width m n b marks n new
       follow-last z = follow-next n new (λ s st eb ew em. rw (told-ended n h) (visit-end s words (n - 1) next new z))
+
+-- ---- one block of a walk, as its answer tells
+module _ (words : List ℕ) (before width m n b : ℕ) (old : List ℕ) (new : List ℕ) where
+  pub gone-over : (r : ℕ) → Walked words before width m n b old r new → Gone words before width m n b old (Over r) new
+  unfolding Gone
+  gone-over r v = v
+
+  pub gone-on : (next : ℕ) → 1 ≤ next → 1 ≤ n → ((r : ℕ) (left : List ℕ) → Walked words before width m (n - 1) next new r left → Walked words before width m n b old r left)
+      → Gone words before width m n b old (Further next) new
+  unfolding Gone
+  gone-on next h g f = (h, g, f)
+
+  module _ (w : Went) (v : Gone words before width m n b old w new) where
+    pub was-over : (r : ℕ) → w ≡ Over r → Walked words before width m n b old r new
+    unfolding Gone
+    was-over r e = rw e at v
+
+    pub was-further : (next : ℕ) → w ≡ Further next
+        → (1 ≤ next) × (1 ≤ n) × ((r : ℕ) (left : List ℕ) → Walked words before width m (n - 1) next new r left → Walked words before width m n b old r left)
+    unfolding Gone
+    was-further next e = rw e at v
 
 -- ---- a visit by a walk
 module _ (s : Settings) (l : List ℕ) (st : Stretch s l) (before : ℕ) (e : before ≡ blockAt s 1 - 1) where

@@ -13,7 +13,9 @@ use Rattle.blocks.specs.Chain.{list, after}
 use Rattle.visits.specs.declared.Walk.{Walk}
 use Rattle.visits.specs.declared.Walk.the-variants.{Ended, Bad}
 use Rattle.visits.specs.declared.Stepped.{Stepped}
-use Rattle.visits.specs.declared.Stepped.the-variants.{On, Stuck}
+use Rattle.visits.specs.declared.Stepped.the-variants.{On as Onward, Stuck}
+use Rattle.visits.specs.declared.Went.{Went}
+use Rattle.visits.specs.declared.Went.the-variants.{On, Over}
 
 -- none of the blocks has a mark, each marked before the next is looked at
 unfoldable pub fresh : List ℕ → List ℕ → Bool
@@ -50,7 +52,7 @@ unfoldable pub stepsOn : ℕ → List ℕ → ℕ → Bool
 stepsOn m marks b = leb b m && eqb (getD marks b 0) 0
 
 unfoldable pub stepped : List ℕ → ℕ → ℕ → ℕ → List ℕ → ℕ → Stepped
-stepped words before width m marks b = cond (stepsOn m marks b) (On (getD words (before + b * width) 0)) Stuck
+stepped words before width m marks b = cond (stepsOn m marks b) (Onward (getD words (before + b * width) 0)) Stuck
 
 unfoldable pub steppedOn : ℕ → List ℕ → ℕ → List ℕ
 steppedOn m marks b = cond (stepsOn m marks b) (set marks b 1) marks
@@ -64,3 +66,9 @@ toldBy (suc n) = Ended n
 abbrev pub Walked : List ℕ → ℕ → ℕ → ℕ → ℕ → ℕ → List ℕ → ℕ → List ℕ → Type 0
 Walked words before width m n b old r new =
     (s : Settings) → Stretch s words → before ≡ blockAt s 1 - 1 → width ≡ s .b → m ≡ s .m → Visited s words n b old (toldBy r) new
+
+-- one block of a walk: what it answers where it is over, else that the walk from the next block on is the rest of it
+unfoldable pub Gone : List ℕ → ℕ → ℕ → ℕ → ℕ → ℕ → List ℕ → Went → List ℕ → Type 0
+Gone words before width m n b old (On next) new =
+    (1 ≤ next) × (1 ≤ n) × ((r : ℕ) (left : List ℕ) → Walked words before width m (n - 1) next new r left → Walked words before width m n b old r left)
+Gone words before width m n b old (Over r) new = Walked words before width m n b old r new

@@ -11,7 +11,15 @@ ghost use Rattle.tasks.specs.Table.{rightTable};
 ghost use Rattle.queues.specs.Items.{live};
 ghost use Rattle.sound.specs.Letters.{rightLength, rightHeader, rightPlace, wordsFrom};
 ghost use Rattle.sound.specs.Blocks.{chains};
-ghost use Rattle.visits.specs.Marks.{marked, Linked, stepped, steppedOn, Walked, Visited};
+ghost use Rattle.visits.specs.Marks.{
+  marked,
+  Linked,
+  stepped,
+  steppedOn,
+  Gone,
+  Walked,
+  Visited,
+};
 ghost use Rattle.visits.specs.Letters.{
   Whole,
   Readable,
@@ -54,8 +62,42 @@ fn step(node: &[u32], before: usize, width: usize, m: usize, marks: &mut [u8], b
     Stepped::On(node[before + at * width])
 }
 
+// What going one block further tells: the block that comes next, or that the walk is over and what it answers.
+pub enum Went {
+    On(u32),
+    Over(usize),
+}
+
+// One block of a walk with `owed` blocks left.
+fn go_on(
+    node: &[u32],
+    before: usize,
+    width: usize,
+    m: usize,
+    marks: &mut [u8],
+    b: u32,
+    owed: usize,
+) -> Went
+    requires { ⌜ Linked (now node) before width m ⌝ }
+    requires { ⌜ m < length (now marks) ⌝ }
+    requires { ⌜ 1 ≤ b ⌝ }
+    ensures { λ r. ⌜ Gone (now (node .entry)) before width m owed b (now (marks .entry)) r (now (marks .exit)) ⌝ }
+{
+    if owed == 0 {
+        return Went::Over(0);
+    }
+    let Stepped::On(next) = step(node, before, width, m, marks, b) else {
+        return Went::Over(0);
+    };
+    if next == 0 {
+        return Went::Over(owed);
+    }
+    Went::On(next)
+}
+
 // The walk from block b on, `owed` blocks at most, each link followed leaving one fewer owed: one more than how many of
-// them were not there, or 0 for a bad chain. It takes numbers and answers a number, so that a step costs little.
+// them were not there, or 0 for a bad chain. It takes numbers and answers a number, and goes four blocks before it calls
+// itself, so that a block costs little and the stack stays low.
 fn follow(
     node: &[u32],
     before: usize,
@@ -70,16 +112,27 @@ fn follow(
     requires { ⌜ 1 ≤ b ⌝ }
     ensures { λ r. ⌜ Walked (now (node .entry)) before width m owed b (now (marks .entry)) r (now (marks .exit)) ⌝ }
 {
-    if owed == 0 {
-        return 0;
-    }
-    let Stepped::On(next) = step(node, before, width, m, marks, b) else {
-        return 0;
+    let first = go_on(node, before, width, m, marks, b, owed);
+    let b1 = match first {
+        Went::Over(r) => return r,
+        Went::On(next) => next,
     };
-    if next == 0 {
-        return owed;
-    }
-    follow(node, before, width, m, marks, next, owed - 1)
+    let second = go_on(node, before, width, m, marks, b1, owed - 1);
+    let b2 = match second {
+        Went::Over(r) => return r,
+        Went::On(next) => next,
+    };
+    let third = go_on(node, before, width, m, marks, b2, owed - 2);
+    let b3 = match third {
+        Went::Over(r) => return r,
+        Went::On(next) => next,
+    };
+    let fourth = go_on(node, before, width, m, marks, b3, owed - 3);
+    let b4 = match fourth {
+        Went::Over(r) => return r,
+        Went::On(next) => next,
+    };
+    follow(node, before, width, m, marks, b4, owed - 4)
 }
 
 // Follows the chain from b on, `owed` blocks at most, and marks each; bad where a block is none or has a

@@ -1,37 +1,37 @@
 -- `shapes::are_within` meets its contract. Assumes nothing.
-use Rattle.shapes.proofs.Steps.{within-low, within-high, within-more, within-none}
-use Rattle.shapes.specs.Shape.{itemsWithin}
-use Rattle.queues.specs.Queue.{run, contents}
+use mathlib.Core.Path.{_≡_, refl}
+use Prim.Native.Nat.{_-_, _≤_}
 use native.Mathlib.Omega.{arith}
-use Prim.Native.Nat.{ℕ, _-_, _≤_}
-use mathlib.Core.Path.{_≡_, ap}
+use lib.ListN.{length, drop}
 use borrow.Author.Needs.{needs}
+use Rattle.shapes.specs.Shape.{itemsWithin}
+use Rattle.shapes.proofs.Steps.{within-low, within-high, within-more, within-none}
 use Rattle.shapes.proofs.are_within.Statement.{statement}
 use Rattle.shapes.proofs.are_within.Tie as tie
 
 abbrev Inv-loop : tie.InvT-loop
-Inv-loop node k q least most count i₀ i = (i ≤ count) × (itemsWithin least most (contents k node q) ≡ itemsWithin least most (run k node q i (count - i)))
+Inv-loop row least most i₀ i = (i ≤ length row) × (itemsWithin least most row ≡ itemsWithin least most (drop i row))
 
 abbrev μ-loop : tie.MeasureT-loop
-μ-loop node k q least most count i₀ i = count - i
-
-items-of-requires : tie.Need-items-of-requires Inv-loop μ-loop
-items-of-requires c κs = search needs
+μ-loop row least most i₀ i = length row - i
 
 loop-holds : tie.Need-loop-holds Inv-loop μ-loop
-loop-holds c = (omega arith, ap (λ (n : ℕ). itemsWithin (c .before .before .args .least) (c .before .before .args .most) (run (c .before .before .args .k) (c .before .before .args .node .now) (c .before .before .args .q) 0 n)) (omega (arith, c .items-of .ensures)))
+loop-holds c = (omega arith, refl)
 
-item-requires : tie.Need-item-requires Inv-loop μ-loop
-item-requires c κs = search needs
+mul-b : tie.Need-mul-b Inv-loop μ-loop
+mul-b c = search needs
+
+shared-slice-read-b : tie.Need-shared-slice-read-b Inv-loop μ-loop
+shared-slice-read-b c = search needs
 
 cast-b : tie.Need-cast-b Inv-loop μ-loop
-cast-b c = search needs
+cast-b c = omega (arith, c .shared-slice-known .given (c .before .before .loop .i))
 
 returns : tie.Need-returns Inv-loop μ-loop
-returns c = within-low (c .before .before .before .before .before .before .args .k) (c .before .before .before .before .before .before .args .node .now) (c .before .before .before .before .before .before .args .q) (c .before .before .before .before .before .before .args .least) (c .before .before .before .before .before .before .args .most) (c .before .before .before .loop .i) (c .before .before .before .before .items-of .result) _ (c .before .before .before .loop .inv .1) (omega arith) (omega (arith, c .before .item .ensures))
+returns c = let x = c .before .before .before .before .args in let t = c .before .before .before .loop in within-low (x .least) (x .most) (x .row .now) (t .i) _ (t .inv .1) (omega arith) (c .if1 .taken)
 
 returns-2 : tie.Need-returns-2 Inv-loop μ-loop
-returns-2 c = within-high (c .before .before .before .before .before .before .before .args .k) (c .before .before .before .before .before .before .before .args .node .now) (c .before .before .before .before .before .before .before .args .q) (c .before .before .before .before .before .before .before .args .least) (c .before .before .before .before .before .before .before .args .most) (c .before .before .before .before .loop .i) (c .before .before .before .before .before .items-of .result) _ (c .before .before .before .before .loop .inv .1) (omega arith) (omega (arith, c .before .before .item .ensures))
+returns-2 c = let x = c .before .before .before .before .before .args in let t = c .before .before .before .before .loop in within-high (x .least) (x .most) (x .row .now) (t .i) _ (t .inv .1) (omega arith) (c .if2 .taken)
 
 add-i : tie.Need-add-i Inv-loop μ-loop
 add-i c = search needs
@@ -40,10 +40,10 @@ loop-less : tie.Need-loop-less Inv-loop μ-loop
 loop-less c = search needs
 
 loop-again : tie.Need-loop-again Inv-loop μ-loop
-loop-again c = (omega arith, within-more (c .before .before .before .before .before .before .before .args .k) (c .before .before .before .before .before .before .before .args .node .now) (c .before .before .before .before .before .before .before .args .q) (c .before .before .before .before .before .before .before .args .least) (c .before .before .before .before .before .before .before .args .most) (c .before .before .before .before .loop .i) (c .before .before .before .before .before .items-of .result) _ (c .before .before .before .before .loop .inv .1) (omega arith) (omega (arith, c .before .before .item .ensures)) (omega (arith, c .before .before .item .ensures)))
+loop-again c = let x = c .before .before .before .before .before .args in let t = c .before .before .before .before .loop in (omega arith, within-more (x .least) (x .most) (x .row .now) (t .i) _ (t .inv .1) (omega arith) (c .before .if1 .left) (c .if2 .left))
 
 returns-3 : tie.Need-returns-3 Inv-loop μ-loop
-returns-3 c = within-none (c .before .before .before .before .args .k) (c .before .before .before .before .args .node .now) (c .before .before .before .before .args .q) (c .before .before .before .before .args .least) (c .before .before .before .before .args .most) (c .before .loop .i) (c .before .before .items-of .result) _ (c .before .loop .inv .1) (omega arith)
+returns-3 c = let x = c .before .before .args in let t = c .before .loop in within-none (x .least) (x .most) (x .row .now) (t .i) _ (t .inv .1) (omega arith)
 
 pub are-within-spec : {M : Type 1} → statement M
 are-within-spec =
@@ -51,9 +51,9 @@ are-within-spec =
     (tie.spec
     Inv-loop
     μ-loop
-    items-of-requires
     loop-holds
-    item-requires
+    mul-b
+    shared-slice-read-b
     cast-b
     returns
     returns-2
