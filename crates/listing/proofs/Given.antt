@@ -3,7 +3,6 @@ use mathlib.Core.Path.{_≡_, sym, ap, ap₂, _∙_}
 use mathlib.Core.Bool.{true, false}
 use mathlib.Core.List.{List}
 use Prim.Native.Nat.{ℕ, _+_, _-_, _≤_, _<_}
-use native.Mathlib.Nat.{add-zero}
 use native.Mathlib.Omega.{arith}
 use lib.Dec.{eqb, ltb}
 use lib.ListN.{length, getD}
@@ -14,7 +13,7 @@ use Rattle.settings.specs.declared.Settings.{Settings}
 use Rattle.layout.specs.Places.{nodes, taskIds, taskQueues, nodesAt, sendAt, taskAt, itemsWord, gapWord, nodeSize, nodeAt, node}
 use Rattle.layout.specs.Numbers.{headerWords, sourceTaskWord, sourceNodeWord, destinationTaskWord, destinationNodeWord, lengthWord}
 use Rattle.layout.specs.Asked.{Stretch, Sized}
-use Rattle.words.proofs.Parts.{getD-part, length-part}
+use Rattle.words.proofs.Parts.{length-part}
 use Rattle.layout.proofs.Fits.{nodes-fit}
 use Rattle.layout.proofs.NodeRows.{by-send}
 use Rattle.layout.proofs.MemoryRows.{stretch-fits}
@@ -25,8 +24,7 @@ use Rattle.tasks.specs.declared.Seat.the-variants.{At}
 use Rattle.letters.specs.Letter.{word}
 use Rattle.letters.specs.Asked.{Lies}
 use Rattle.queues.specs.declared.Kind.{Kind}
-use Rattle.queues.specs.Queue.{sendKind, taskKind, start as startOf, items, slotFrom, itemAt, Queue}
-use Rattle.queues.specs.Moves.{IsSlot}
+use Rattle.queues.specs.Queue.{sendKind, taskKind, items, itemAt, Queue}
 use Rattle.queues.specs.Items.{live, gapFlag}
 use Rattle.queues.proofs.Items.{live-all}
 use Rattle.queues.proofs.Views.{length-contents, contents-item}
@@ -50,32 +48,6 @@ sized-stretch s memory z i h =
       range = z .range;
       long = length-part memory (nodeAt s i) (nodeAt s i + nodeSize s) (omega arith) (omega (arith, stretch-fits s i h, z .long)) ∙ omega arith;
     }
-
--- ---- the words of a node's queue as they stand in the memory
-module _ (s : Settings) (memory : List ℕ) (z : Sized s memory) (i : ℕ) (h : i < nodes) (at q : ℕ) (e : at ≡ nodeAt s i) where
-  node-word : (k : ℕ) → q + k < nodeSize s → getD memory (at + q + k) 0 ≡ getD (node s memory i) (q + k) 0
-  node-word k l =
-      let f = stretch-fits s i h in
-      let n = z .long in
-      let w : at + q + k ≡ nodeAt s i + (q + k) = omega arith in
-      ap (λ (x : ℕ). getD memory x 0) w ∙ sym (getD-part memory (nodeAt s i) (nodeAt s i + nodeSize s) (omega arith) (omega arith) (q + k) (omega arith))
-
-  pub started : q < nodeSize s → getD memory (at + q) 0 ≡ getD (node s memory i) q 0
-  started l = rw (add-zero (at + q), add-zero q) at (node-word 0 (omega arith))
-
-  pub counted : q + 2 ≤ nodeSize s → getD memory (at + q + itemsWord) 0 ≡ getD (node s memory i) (q + itemsWord) 0
-  counted l = node-word itemsWord (omega arith)
-
-  pub flagged : q + 3 ≤ nodeSize s → getD memory (at + q + gapWord) 0 ≡ getD (node s memory i) (q + gapWord) 0
-  flagged l = node-word gapWord (omega arith)
-
--- an item of the queue
-pub item-is : (s : Settings) (memory : List ℕ) (z : Sized s memory) (i : ℕ) (h : i < nodes) (k : Kind) (q at start c r : ℕ) → at ≡ nodeAt s i → Queue k (node s memory i) q
-    → start ≡ startOf k (node s memory i) q → IsSlot k q start c r → getD memory (at + r) 0 ≡ itemAt k (node s memory i) q c
-item-is s memory z i h k q at start c r e u f l =
-    let n = sized-stretch s memory z i h .long in
-    started s memory z i h at r e (omega (arith, u .placed .lies, l .high))
-    ∙ ap (λ (x : ℕ). getD (node s memory i) x 0) (l .is ∙ ap (λ (x : ℕ). slotFrom k q x c) f)
 
 -- ---- a letter
 module _ (s : Settings) (memory : List ℕ) (i b : ℕ) (g : Begins s memory i b) where
@@ -200,15 +172,14 @@ module _ (s : Settings) (memory : List ℕ) (a : Asked s memory) where
           right : c < length (taskItems s memory i q) → (getD (taskItems s memory i q) c 0 ≡ 0 → ⊥) → Right s (node s memory i) (tableIn memory) i (13 + q) (getD (taskItems s memory i q) c 0)
           right d z = rw (a .is) (task-right memory (a .holds) i h q g c (rw (a .is) at d) (rw (a .is) at z))
 
--- ---- a queue of node i as the code reads it: its kind and its word in the stretch, as computed, its start and its number of items
-pub record Read (s : Settings) (memory : List ℕ) (i : ℕ) (kind : Kind) (word : ℕ) (k : Kind) (q start count : ℕ) : Type 0 where
+-- ---- a queue of node i as the code reads it: its kind and its word in the stretch, as computed, and its number of items
+pub record Read (s : Settings) (memory : List ℕ) (i : ℕ) (kind : Kind) (word : ℕ) (k : Kind) (q count : ℕ) : Type 0 where
   pub is : k ≡ kind
   pub stands : q ≡ word
   pub queue : Queue k (node s memory i) q
-  pub begins : start ≡ startOf k (node s memory i) q
   pub many : count ≡ items kind (node s memory i) word
 
-module _ {s : Settings} {memory : List ℕ} {i : ℕ} {kind : Kind} {word : ℕ} {k : Kind} {q start count : ℕ} (r : Read s memory i kind word k q start count) where
+module _ {s : Settings} {memory : List ℕ} {i : ℕ} {kind : Kind} {word : ℕ} {k : Kind} {q count : ℕ} (r : Read s memory i kind word k q count) where
   pub read-place : (c : ℕ) → c < count → (c < k .slots) × (c < 255)
   read-place c l =
       let n : count ≡ items k (node s memory i) q = r .many ∙ ap₂ (λ (x : Kind) (y : ℕ). items x (node s memory i) y) (sym (r .is)) (sym (r .stands)) in
@@ -221,45 +192,45 @@ module _ (s : Settings) (memory : List ℕ) (a : Asked s memory) (i : ℕ) (h : 
   abbrev stretch : List ℕ
   stretch = node s memory i
 
-  read : (kind : Kind) (word : ℕ) → Queue kind stretch word → (k : Kind) (q at : ℕ) → k ≡ kind → q ≡ word → at ≡ nodeAt s i
-      → Read s memory i kind word k q (getD memory (at + q) 0) (getD memory (at + q + itemsWord) 0)
-  read kind word u k q at ek eq e =
-      let z = asked-sized s memory a in
-      let n = sized-stretch s memory z i h .long in
+  read : (kind : Kind) (word : ℕ) → Queue kind stretch word → (k : Kind) (q count : ℕ) → k ≡ kind → q ≡ word → count ≡ items k stretch q → Read s memory i kind word k q count
+  read kind word u k q count ek eq e =
       record {
         is = ek;
         stands = eq;
         queue = rw (ek, eq) u;
-        begins = started s memory z i h at q e (omega (arith, u .placed .lies, u .placed .some));
-        many = counted s memory z i h at q e (omega (arith, u .placed .lies, u .placed .some)) ∙ ap (λ (x : ℕ). getD stretch (x + itemsWord) 0) eq;
+        many = e ∙ ap (λ (x : ℕ). getD stretch (x + itemsWord) 0) eq;
       }
 
-  module _ (q : ℕ) (g : q < taskQueues) {k : Kind} {at start count : ℕ} where
-    pub kept-begins : Read s memory i (taskKind s) (taskAt s q) k at start count → (c b : ℕ) → c < count → b ≡ itemAt k stretch at c → (b ≡ 0 → ⊥) → Begins s memory i b
+  module _ (q : ℕ) (g : q < taskQueues) {k : Kind} {at : ℕ} (ek : k ≡ taskKind s) (eq : at ≡ taskAt s q) where
+    pub task-queue : Queue k stretch at
+    task-queue = rw (ek, eq) (asked-task s memory a i h q g)
+
+    pub read-task : (count : ℕ) → count ≡ items k stretch at → Read s memory i (taskKind s) (taskAt s q) k at count
+    read-task count e = read (taskKind s) (taskAt s q) (asked-task s memory a i h q g) k at count ek eq e
+
+  module _ (j : ℕ) (g : j < nodes) {k : Kind} {at : ℕ} (ek : k ≡ sendKind s) (eq : at ≡ sendAt s j) where
+    pub send-queue : Queue k stretch at
+    send-queue = rw (ek, eq) (asked-send s memory a i h j g)
+
+    pub read-send : (count : ℕ) → count ≡ items k stretch at → Read s memory i (sendKind s) (sendAt s j) k at count
+    read-send count e = read (sendKind s) (sendAt s j) (asked-send s memory a i h j g) k at count ek eq e
+
+  module _ (q : ℕ) (g : q < taskQueues) {k : Kind} {at count : ℕ} where
+    pub kept-begins : Read s memory i (taskKind s) (taskAt s q) k at count → (c b : ℕ) → c < count → b ≡ itemAt k stretch at c → (b ≡ 0 → ⊥) → Begins s memory i b
     kept-begins r c b l e n =
         let f = read-item r c b e in
         rw f (asked-kept s memory a i h q g c (omega (arith, r .many)) (λ z. n (f ∙ z)))
 
-    -- where the gap flag, which stands in the memory behind the queue's start and items, is 0, each item begins a letter
-    pub kept-whole : Read s memory i (taskKind s) (taskAt s q) k at start count → (p : ℕ) → p ≡ nodeAt s i → getD memory (p + at + gapWord) 0 ≡ 0 → count ≡ length (live (taskItems s memory i q))
-    kept-whole r p e z =
+    -- where the gap flag is 0, each item begins a letter
+    pub kept-whole : Read s memory i (taskKind s) (taskAt s q) k at count → (flag : ℕ) → flag ≡ getD stretch (at + gapWord) 0 → flag ≡ 0 → count ≡ length (live (taskItems s memory i q))
+    kept-whole r flag e z =
         let u = asked-task s memory a i h q g in
-        let n = sized-stretch s memory (asked-sized s memory a) i h .long in
-        let m = flagged s memory (asked-sized s memory a) i h p at e (omega (arith, u .placed .lies, r .stands)) in
-        let f : gapFlag (taskItems s memory i q) ≡ 0 = sym (asked-flag s memory a i h q g) ∙ ap (λ (x : ℕ). getD stretch (x + gapWord) 0) (sym (r .stands)) ∙ sym m ∙ z in
+        let f : gapFlag (taskItems s memory i q) ≡ 0 = sym (asked-flag s memory a i h q g) ∙ ap (λ (x : ℕ). getD stretch (x + gapWord) 0) (sym (r .stands)) ∙ sym e ∙ z in
         r .many ∙ sym (length-contents (taskKind s) stretch (taskAt s q) u) ∙ ap length (sym (live-all (taskItems s memory i q) f))
 
-  module _ (j : ℕ) (g : j < nodes) {k : Kind} {at start count : ℕ} (r : Read s memory i (sendKind s) (sendAt s j) k at start count) where
+  module _ (j : ℕ) (g : j < nodes) {k : Kind} {at count : ℕ} (r : Read s memory i (sendKind s) (sendAt s j) k at count) where
     pub sent-begins : (c b : ℕ) → c < count → b ≡ itemAt k stretch at c → Begins s memory i b
     sent-begins c b l e = rw (read-item r c b e) (asked-sent s memory a i h j g c (omega (arith, r .many)))
 
     pub sent-named : (c b : ℕ) → c < count → b ≡ itemAt k stretch at c → (d : ℕ) → d ≡ wordIn s memory i b destinationTaskWord → d < taskIds
     sent-named c b l e d n = rw (n, read-item r c b e) (named-id (tableIn memory) j _ (asked-named s memory a i h j g c (omega (arith, r .many))))
-
-  pub read-task : (q : ℕ) → q < taskQueues → (k : Kind) (at p : ℕ) → k ≡ taskKind s → at ≡ taskAt s q → p ≡ nodeAt s i
-      → Read s memory i (taskKind s) (taskAt s q) k at (getD memory (p + at) 0) (getD memory (p + at + itemsWord) 0)
-  read-task q g = read (taskKind s) (taskAt s q) (asked-task s memory a i h q g)
-
-  pub read-send : (j : ℕ) → j < nodes → (k : Kind) (at p : ℕ) → k ≡ sendKind s → at ≡ sendAt s j → p ≡ nodeAt s i
-      → Read s memory i (sendKind s) (sendAt s j) k at (getD memory (p + at) 0) (getD memory (p + at + itemsWord) 0)
-  read-send j g = read (sendKind s) (sendAt s j) (asked-send s memory a i h j g)

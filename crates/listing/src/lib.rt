@@ -9,10 +9,18 @@ ghost use mathlib.Core.List.{[], _∷_};
 ghost use Prim.Native.Nat.{_*_, _+_, _≤_, _<_};
 ghost use lib.ListN.{length, getD};
 ghost use Rattle.words.specs.Count.{sum};
-ghost use Rattle.layout.specs.Places.{nodes, taskIds, taskQueues, nodesAt, node};
+ghost use Rattle.layout.specs.Places.{
+  nodes,
+  taskIds,
+  taskQueues,
+  nodesAt,
+  gapWord,
+  nodeSize,
+  node,
+};
 ghost use Rattle.layout.specs.Numbers.{headerWords};
 ghost use Rattle.layout.specs.Asked.{Sized};
-ghost use Rattle.queues.specs.Queue.{Queue, start as startOf, itemAt};
+ghost use Rattle.queues.specs.Queue.{Queue, items, itemAt};
 ghost use Rattle.queues.specs.Items.{live};
 ghost use Rattle.sound.specs.Reading.{settingsIn, taskItems};
 ghost use Rattle.sound.specs.Sound.{sound};
@@ -70,18 +78,49 @@ fn word_in(memory: &[u32], s: Settings, i: u32, b: u32, k: usize) -> u32
     letters::word_of(&memory[a..e], s, b, k)
 }
 
-// The item at place c of the queue at word q of node i, whose start slot is `start`.
-fn item_in(memory: &[u32], s: Settings, i: u32, k: Kind, q: usize, start: usize, c: usize) -> u32
+// The number of items of the queue at word q of node i.
+fn count_in(memory: &[u32], s: Settings, i: u32, k: Kind, q: usize) -> usize
     requires { ⌜ Sized s (now memory) ⌝ }
     requires { ⌜ i < nodes ⌝ }
     requires { ⌜ Queue k (node s (now memory) i) q ⌝ }
-    requires { ⌜ start ≡ startOf k (node s (now memory) i) q ⌝ }
+    ensures { λ r. ⌜ r ≡ items k (node s (now (memory .entry)) i) q ⌝ }
+{
+    let a = layout::node_at(s, i as usize);
+    let e = a + layout::node_size(s);
+    queues::items_of(&memory[a..e], k, q)
+}
+
+// The gap flag of the task queue at word q of a node's stretch.
+fn flag_of(node: &[u32], q: usize) -> u32
+    requires { ⌜ q + gapWord < length (now node) ⌝ }
+    ensures { λ r. ⌜ r ≡ getD (now (node .entry)) (q + gapWord) 0 ⌝ }
+{
+    node[q + 2]
+}
+
+// The gap flag of the task queue at word q of node i.
+fn flag_in(memory: &[u32], s: Settings, i: u32, q: usize) -> u32
+    requires { ⌜ Sized s (now memory) ⌝ }
+    requires { ⌜ i < nodes ⌝ }
+    requires { ⌜ q + gapWord < nodeSize s ⌝ }
+    ensures { λ r. ⌜ r ≡ getD (node s (now (memory .entry)) i) (q + gapWord) 0 ⌝ }
+{
+    let a = layout::node_at(s, i as usize);
+    let e = a + layout::node_size(s);
+    flag_of(&memory[a..e], q)
+}
+
+// The item at place c of the queue at word q of node i.
+fn item_in(memory: &[u32], s: Settings, i: u32, k: Kind, q: usize, c: usize) -> u32
+    requires { ⌜ Sized s (now memory) ⌝ }
+    requires { ⌜ i < nodes ⌝ }
+    requires { ⌜ Queue k (node s (now memory) i) q ⌝ }
     requires { ⌜ c < k .slots ⌝ }
     ensures { λ r. ⌜ r ≡ itemAt k (node s (now (memory .entry)) i) q c ⌝ }
 {
     let a = layout::node_at(s, i as usize);
-    let at = queues::slot_at(k, q, start, c);
-    memory[a + at]
+    let e = a + layout::node_size(s);
+    queues::item(&memory[a..e], k, q, c)
 }
 
 // What the list shows of the letter that block b begins in node i, at a place, for a task.
@@ -166,13 +205,11 @@ fn list_task_queue(
 {
     let k = queues::task_kind(s);
     let at = layout::task_at(s, q as usize);
-    let a = layout::node_at(s, i as usize) + at;
-    let start = memory[a] as usize;
-    let count = memory[a + 1] as usize;
+    let count = count_in(memory, s, i, k, at);
     let mut r = n;
     let mut c = 0;
     while c < count {
-        let b = item_in(memory, s, i, k, at, start, c);
+        let b = item_in(memory, s, i, k, at, c);
         r = list_kept(memory, s, task, i, b, out, r);
         c += 1;
     }
@@ -260,13 +297,11 @@ fn list_send_queue(
 {
     let k = queues::send_kind(s);
     let at = layout::send_at(s, i as usize);
-    let a = layout::node_at(s, j as usize) + at;
-    let start = memory[a] as usize;
-    let count = memory[a + 1] as usize;
+    let count = count_in(memory, s, j, k, at);
     let first = left_out(memory, i, j);
     let mut c = first;
     while c < count {
-        let b = item_in(memory, s, j, k, at, start, c);
+        let b = item_in(memory, s, j, k, at, c);
         let task = word_in(memory, s, j, b, 2);
         let t = task as usize;
         let n = ranks[t];
@@ -297,16 +332,14 @@ fn kept_in(memory: &[u32], s: Settings, i: u32, q: u32) -> u32
 {
     let k = queues::task_kind(s);
     let at = layout::task_at(s, q as usize);
-    let a = layout::node_at(s, i as usize) + at;
-    let start = memory[a] as usize;
-    let count = memory[a + 1] as usize;
-    if memory[a + 2] == 0 {
+    let count = count_in(memory, s, i, k, at);
+    if flag_in(memory, s, i, at) == 0 {
         return count as u32;
     }
     let mut letters = 0;
     let mut c = 0;
     while c < count {
-        let b = item_in(memory, s, i, k, at, start, c);
+        let b = item_in(memory, s, i, k, at, c);
         if b != 0 {
             letters += 1;
         }
