@@ -9,7 +9,7 @@ use mathlib.Core.Path.{_≡_, sym, ap, _∙_}
 use mathlib.Core.Logic.{⊎-elim}
 use mathlib.Core.List.{List, _++_}
 use Prim.Native.Nat.{ℕ, zero, suc, _+_, _-_, _*_, _/_, _≤_, _<_}
-use native.Mathlib.Nat.{suc-mul, zero-mul, div-eq-of-lt, mod-eq-of-lt, div-eq-sub-div, mod-eq-sub-mod}
+use native.Mathlib.Nat.{suc-mul, zero-mul, div-eq-sub-div, mod-eq-sub-mod}
 use native.Mathlib.Numerals.{add-one}
 use native.Mathlib.Omega.{arith}
 use lib.ListN.{length, getD, take, List·getD-append}
@@ -32,7 +32,7 @@ use Rattle.letters.specs.Letter.{word, letter, laid, written}
 use Rattle.letters.specs.Asked.{Lies}
 use Rattle.letters.proofs.Texts.{fill, fill-leads, fill-other, fill-text, fill-apart}
 use Rattle.letters.proofs.Rows.{chain-long, needs-enough, length-laid, rows-written}
-use Rattle.letters.proofs.Steps.{own-long}
+use Rattle.letters.proofs.Steps.{own-long, word-near}
 
 -- ---- a word of a letter
 module _ (s : Settings) (node : List ℕ) (st : Stretch s node) where
@@ -41,10 +41,6 @@ module _ (s : Settings) (node : List ℕ) (st : Stretch s node) where
       let f = block-fits s b h g in
       let z = st .long in
       getD-part node (blockAt s b) (linkAt s b) (omega arith) (omega arith) k (omega arith)
-
-  word-near : (b k : ℕ) → k < s .b - 1 → word s node b k ≡ getD node (blockAt s b + k) 0
-  unfolding word after
-  word-near b k l = rw (div-eq-of-lt l, mod-eq-of-lt l)
 
   word-far : (b k : ℕ) → s .b - 1 ≤ k → word s node b k ≡ word s node (link s node b) (k - (s .b - 1))
   unfolding word after
@@ -67,7 +63,7 @@ module _ (s : Settings) (node : List ℕ) (st : Stretch s node) where
       ∙ sym (ap (λ (i : ℕ). getD (part node (blockAt s b) (linkAt s b) ++ text s node (chain s node n (link s node b))) i 0) e
       ∙ getD-append-add (part node (blockAt s b) (linkAt s b)) (text s node (chain s node n (link s node b))) (k - (s .b - 1)) 0))
       (λ near.
-      word-near b k near
+      word-near s node b k near
       ∙ sym (List·getD-append (part node (blockAt s b) (linkAt s b)) (text s node (chain s node n (link s node b))) 0 k (omega arith)
       ∙ own-word b k (w .0 .0) (w .0 .1) near))
       (le-or-lt (s .b - 1) k)

@@ -223,6 +223,11 @@ needs-suc s w k =
     let e : k + 1 + (s .b - 2) ≡ k + (s .b - 1) = omega arith in
     ap (λ (n : ℕ). n / (s .b - 1)) e ∙ add-div-right k {k = s .b - 1} (omega arith)
 
+-- a word that the first block carries
+pub word-near : (s : Settings) (node : List ℕ) (b k : ℕ) → k < s .b - 1 → word s node b k ≡ getD node (blockAt s b + k) 0
+unfolding word after
+word-near s node b k l = rw (div-eq-of-lt l, mod-eq-of-lt l)
+
 module _ (s : Settings) (node : List ℕ) (k b : ℕ) (l : Lies s node (k + 1) b) where
   pub word-walks : Walks s node (k / (s .b - 1) + 1) b
   word-walks = let w = l .walks .stretch .range .b .low in rw (← needs-suc s (omega arith) k) (l .walks)
@@ -246,16 +251,12 @@ module _ (s : Settings) (node : List ℕ) (k b : ℕ) (l : Lies s node (k + 1) b
 
   -- a word that the first block carries
   module _ (near : k < s .b - 1) where
-    none : k / (s .b - 1) ≡ 0
-    none = div-eq-of-lt near
-
     pub near-in : (1 ≤ b) × (b ≤ s .m)
     unfolding after
-    near-in = owner-in b (rw none)
+    near-in = owner-in b (rw (div-eq-of-lt near))
 
     pub near-is : (at : ℕ) → at ≡ blockAt s b → getD node (at + k) 0 ≡ word s node b k
-    unfolding word after
-    near-is at q = rw (none, mod-eq-of-lt near, q)
+    near-is at q = rw q (sym (word-near s node b k near))
 
 -- ---- the whole letter
 pub covers-lies : (s : Settings) (node : List ℕ) (n b owed : ℕ) → Lies s node n b → owed ≡ needs s n → Covers s node owed b n

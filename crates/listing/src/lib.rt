@@ -22,7 +22,7 @@ ghost use Rattle.layout.specs.Numbers.{headerWords};
 ghost use Rattle.layout.specs.Asked.{Sized};
 ghost use Rattle.queues.specs.Queue.{Queue, items, itemAt};
 ghost use Rattle.queues.specs.Items.{live};
-ghost use Rattle.sound.specs.Reading.{settingsIn, taskItems};
+ghost use Rattle.sound.specs.Reading.{taskItems};
 ghost use Rattle.sound.specs.Sound.{sound};
 ghost use Rattle.listing.specs.List.{
   wordIn,
@@ -37,7 +37,6 @@ ghost use Rattle.listing.specs.Asked.{
   Few,
   laidIn,
   Laid,
-  Rows,
   placed,
   Low,
   keptOf,

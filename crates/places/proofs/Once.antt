@@ -1,9 +1,8 @@
 -- The free list and the places of a node together: what the marks decide is the fifth and the sixth rule. Assumes nothing.
 use mathlib.Core.Path.{_≡_, refl, sym, ap, ap₂, _∙_}
 use mathlib.Core.Bool.{Bool, true, false, _&&_, false≢true}
-use mathlib.Core.List.{List, [], _∷_, _++_}
-use Prim.Native.Nat.{ℕ, zero, suc, _+_, _-_, _≤_, _<_}
-use native.Mathlib.Numerals.{add-one}
+use mathlib.Core.List.{List, [], _∷_}
+use Prim.Native.Nat.{ℕ, zero, suc, _+_, _-_, _≤_}
 use native.Mathlib.Omega.{arith}
 use lib.Dec.{eqb}
 use lib.ListN.{length, getD, replicate, getD-replicate, List·getD-eq-default}
@@ -11,7 +10,7 @@ use mathlib.Core.Logic.{⊎-elim}
 use borrow.Author.Tests.{eqb-true}
 use Rattle.words.specs.Words.{every, all}
 use Rattle.words.specs.Count.{occurs}
-use Rattle.words.proofs.Lists.{split, same?, and-true, and-false, every-at, every-not, all-head, le-or-lt, told-no, told-yes}
+use Rattle.words.proofs.Lists.{split, same?, and-true, and-false, every-at, all-head, le-or-lt, told-no, told-yes}
 use Rattle.words.proofs.Count.{occurs-append}
 use Rattle.settings.specs.declared.Settings.{Settings}
 use Rattle.layout.specs.Places.{firstFreeAt, node}
@@ -19,11 +18,11 @@ use Rattle.blocks.proofs.Rows.{within-in}
 use Rattle.sound.specs.Reading.{tableIn}
 use Rattle.sound.specs.Letters.{chainFrom, endsWell, rightLetter}
 use Rattle.sound.specs.Blocks.{chains, begun, standing, visits, eachOnce, rightLetters}
-use Rattle.sound.proofs.Tests.{and-assoc, and-yes, and-cross, every-more, every-same}
+use Rattle.sound.proofs.Tests.{and-assoc, and-yes, every-same}
 use Rattle.visits.specs.declared.Walk.{Walk}
 use Rattle.visits.specs.declared.Walk.the-variants.{Ended, Bad}
 use Rattle.visits.specs.Marks.{fresh, marked, endsWithin, clean, Visited}
-use Rattle.visits.specs.Letters.{lettersRight, Judged}
+use Rattle.visits.specs.Letters.{Judged}
 use Rattle.visits.proofs.Walks.{fresh-append, marked-append}
 use Rattle.visits.proofs.Read.{ends-within}
 use Rattle.places.specs.Given.{Lent, Blank, freeRight, placesRight, allMarked}

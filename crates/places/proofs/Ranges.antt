@@ -1,8 +1,8 @@
 -- Letters judged one after the other: those of a queue's two runs, those of some places from a place on, and those of all. Assumes nothing.
 use mathlib.Core.Path.{_≡_, refl, sym, ap, ap₂, _∙_}
 use mathlib.Core.Bool.{Bool, true, false, _&&_, false≢true}
-use mathlib.Core.List.{List, [], _∷_, _++_, append-nil, append-assoc}
-use Prim.Native.Nat.{ℕ, zero, suc, _+_, _≤_, _<_}
+use mathlib.Core.List.{List, [], _++_, append-nil, append-assoc}
+use Prim.Native.Nat.{ℕ, zero, suc, _+_, _<_}
 use native.Mathlib.Nat.{add-zero, zero-add, add-assoc, add-suc}
 use native.Mathlib.Numerals.{add-one}
 use native.Mathlib.Omega.{arith}
@@ -18,8 +18,8 @@ use Rattle.sound.specs.Blocks.{chains, begun, standing, rightLetters}
 use Rattle.sound.proofs.Tests.{and-assoc, and-yes, and-cross, every-more, every-same}
 use Rattle.visits.specs.Marks.{fresh, marked}
 use Rattle.visits.specs.Letters.{lettersRight, Judged}
-use Rattle.visits.proofs.Walks.{fresh-append, marked-append, fresh-none, marked-none}
-use Rattle.visits.proofs.Judge.{right-append, marks-append, right-none, marks-none}
+use Rattle.visits.proofs.Walks.{fresh-append, marked-append}
+use Rattle.visits.proofs.Judge.{right-append, marks-append, right-none}
 use Rattle.places.specs.Given.{Lent, standingFrom, rangeRight, placesRight}
 
 -- ---- two runs of a queue

@@ -7,10 +7,10 @@ use native.Mathlib.Omega.{arith}
 use native.Mathlib.Numerals.{add-one}
 use lib.ListN.{length, set, take, drop, replicate, length-append, length-replicate, replicate-append-replicate, drop-of-length-le, take-append-drop}
 use borrow.Author.Tests.{lt-ltb, le-ltb}
-use lib.Seq.{drop-at, take-at, set-at}
+use lib.Seq.{take-at, set-at}
 use borrow.Rule.Slice.PartMut.{putMid}
 use Rattle.words.specs.Words.{part, splice}
-use Rattle.words.proofs.Parts.{grown, back, length-part}
+use Rattle.words.proofs.Parts.{grown, back}
 use Rattle.settings.specs.declared.Settings.{Settings}
 use Rattle.settings.specs.Range.{InRange}
 use Rattle.layout.specs.Places.{tableWords, nodesAt, blocksAt, blockAt, linkAt, nodeSize, nodeAt, memorySize}

@@ -1,7 +1,7 @@
 -- What each test of a queue decides, and what a turn of each loop passes. Assumes nothing.
 use mathlib.Core.Path.{_≡_, refl, sym, ap, _∙_}
 use mathlib.Core.Bool.{Bool, true, false, _&&_, _||_, not}
-use mathlib.Core.List.{List, [], _++_}
+use mathlib.Core.List.{List, _++_}
 use Prim.Native.Nat.{ℕ, suc, _+_, _-_, _≤_, _<_}
 use native.Mathlib.Numerals.{add-one}
 use native.Mathlib.Omega.{arith}
@@ -64,10 +64,6 @@ module _ (k : Kind) (l : List ℕ) (q : ℕ) where
 
   -- ---- a send or acknowledge queue
   module _ (m : ℕ) (own : Bool) where
-    pub post-shape : inShape k l q ≡ false → false ≡ rightPost k l q m own
-    unfolding rightPost
-    post-shape e = rw e
-
     -- one with no items
     pub post-empty : items k l q ≡ 0 → (r : Bool) → r ≡ inShape k l q → r ≡ rightPost k l q m own
     unfolding rightPost itemsWithin run all
@@ -93,10 +89,6 @@ module _ (k : Kind) (l : List ℕ) (q : ℕ) where
 module _ (k : Kind) (l : List ℕ) (q m task : ℕ) where
   long : length (contents k l q) ≡ items k l q
   long = length-run k l q 0 (items k l q)
-
-  pub seat-shape : inShape k l q ≡ false → false ≡ rightSeat k l q m task
-  unfolding rightSeat
-  seat-shape e = rw e
 
   -- one with no items
   pub seat-flagged : items k l q ≡ 0 → (getD l (q + gapWord) 0 ≡ 0 → ⊥) → false ≡ rightSeat k l q m task

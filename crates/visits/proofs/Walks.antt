@@ -45,14 +45,6 @@ unfolding marked
 length-marked marks [] = refl
 length-marked marks (x ∷ l) = length-marked (set marks x 1) l ∙ length-set marks x 1
 
-pub fresh-none : (marks : List ℕ) → fresh marks [] ≡ true
-unfolding fresh
-fresh-none marks = refl
-
-pub marked-none : (marks : List ℕ) → marked marks [] ≡ marks
-unfolding marked
-marked-none marks = refl
-
 -- ---- the paths of a visit
 module _ (s : Settings) (l : List ℕ) (n b : ℕ) (marks : List ℕ) where
   visited-bad : (new : List ℕ) → clean s l n b marks ≡ false → Visited s l n b marks Bad new

@@ -3,7 +3,7 @@ use mathlib.Core.Path.{sym, _∙_}
 use native.Mathlib.Omega.{arith}
 use borrow.Author.Tests.{not-true, not-false}
 use Rattle.visits.proofs.Judge.{gap-judged, letter-bad, its-ends, left-least, its-count, letter-short, letter-head, header-near}
-use Rattle.visits.proofs.Read.{count-small, fits-is, near-block, near-length}
+use Rattle.visits.proofs.Read.{fits-is, near-block, near-length}
 use Prim.Native.Nat.{_+_}
 use Rattle.visits.specs.Letters.{Whole, Readable}
 use borrow.Author.Needs.{needs}
