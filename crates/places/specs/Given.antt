@@ -61,7 +61,7 @@ module _ (s : Settings) (memory : List ℕ) (i a : ℕ) where
 unfoldable pub placesRight : Settings → List ℕ → ℕ → List ℕ → Bool
 placesRight s memory i marks = rightLetters s memory i && fresh marks (standing s memory i 77)
 
--- 1,025 words for the marks, none made yet
+-- 1,025 bytes for the marks, none made yet
 pub record Blank (marks : List ℕ) : Type 0 where
   pub long : length marks ≡ 1025
   pub none : (b : ℕ) → getD marks b 0 ≡ 0
