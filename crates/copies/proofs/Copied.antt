@@ -111,7 +111,7 @@ module _ (s : Settings) (memory : List ℕ) (g : Lettered s memory) (j : ℕ) (s
     other-small = let n = names .0 in omega arith
 
     its-queue : Queue (sendKind s) (node s memory (otherOf memory j)) (sendAt s j)
-    its-queue = send-queue s memory (g .looked .sized) (otherOf memory j) other-small (g .looked .queues (otherOf memory j) other-small) j small
+    its-queue = send-queue s memory (g .looked .sized) (otherOf memory j) other-small (g .queues (otherOf memory j) other-small) j small
 
     pub queue-is : (k : Kind) (q : ℕ) (m : List ℕ) → k ≡ sendKind s → q ≡ sendAt s j → m ≡ node s memory (otherOf memory j) → Queue k m q × (0 < k .slots)
     queue-is k q m ek eq em = rw (ek, eq, em) (its-queue, let r = g .looked .sized .range .s .low in omega arith)

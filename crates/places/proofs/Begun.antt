@@ -1,32 +1,32 @@
--- What stands at each kind of place, and what is known of the queue there. Assumes nothing.
+-- What stands at each kind of place, and which queue its rule is about. Assumes nothing.
 use mathlib.Core.Path.{_≡_, refl, sym, ap, _∙_}
-use mathlib.Core.Bool.{Bool, true, cond, _&&_}
+use mathlib.Core.Bool.{Bool, true, not, cond, _&&_, _||_}
 use mathlib.Core.List.{List, [], _∷_}
-use Prim.Native.Nat.{ℕ, _+_, _-_, _*_, _<_}
+use Prim.Native.Nat.{ℕ, _+_, _-_, _<_}
 use native.Mathlib.Omega.{arith}
 use lib.Dec.{eqb, leb}
-use lib.Seq.{drop-cons}
+use lib.ListN.{length}
 use borrow.Author.Tests.{eq-eqb, ne-eqb, leb-true}
 use Rattle.words.specs.Words.{part}
 use Rattle.words.proofs.Lists.{and-true}
 use Rattle.settings.specs.declared.Settings.{Settings}
 use Rattle.layout.specs.Places.{node, nodeAt, nodeSize, sendAt, ackAt, taskAt}
 use Rattle.layout.specs.Asked.{Stretch}
-use Rattle.layout.proofs.Fits.{nodes-fit}
 use Rattle.layout.proofs.NodeRows.{by-send, by-ack, by-task}
 use Rattle.queues.specs.declared.Kind.{Kind}
-use Rattle.queues.specs.Queue.{sendKind, ackKind, taskKind, items, run, contents, Queue}
+use Rattle.queues.specs.Queue.{sendKind, ackKind, taskKind, items, run, contents}
 use Rattle.queues.specs.Items.{live}
 use Rattle.queues.proofs.Items.{live-cons}
 use Rattle.letters.proofs.Copies.{node-stretch}
 use Rattle.sound.specs.Reading.{stageOf, heldOf, sendItems, ackItems, taskItems}
+use Rattle.sound.specs.Queues.{inShape, rightSend, rightAck, rightTask}
 use Rattle.sound.specs.Positions.{namesOther, held}
 use Rattle.sound.specs.Blocks.{begun, chains}
-use Rattle.sound.proofs.Given.{send-queue, send-live, ack-queue, ack-live, task-queue}
+use Rattle.sound.proofs.Given.{live-blocks}
 use Rattle.visits.specs.Marks.{marked}
 use Rattle.visits.specs.Letters.{lettersRight, Judged, Placing}
 use Rattle.visits.proofs.Judge.{right-none, marks-none}
-use Rattle.places.specs.Given.{standsRight, Lent}
+use Rattle.places.specs.Given.{standsRight, Lent, queueRight}
 
 module _ (s : Settings) (memory l t row : List ℕ) (i : ℕ) (g : Lent s memory l t row i) where
   pub lent-stretch : Stretch s l
@@ -46,15 +46,6 @@ module _ (s : Settings) (memory l t row : List ℕ) (i : ℕ) (g : Lent s memory
   hand-none marks h =
       rw (begun-hand, ne-eqb (stageOf memory i) 2 h) (record { is = sym (right-none s l t i 0 marks); marks = λ e. sym (marks-none s l t i 0 marks) })
 
-  -- the word that names it
-  one : part memory (6 + i * 3 + 2) (6 + i * 3 + 3) ≡ heldOf memory i ∷ []
-  one =
-      let z = g .looked .sized .long in
-      let f = nodes-fit s in
-      let h = g .small in
-      let d : 6 + i * 3 + 3 - (6 + i * 3 + 2) ≡ 1 = omega arith in
-      rw (d, drop-cons memory (6 + i * 3 + 2) 0 (omega arith))
-
   -- a block held is not 0
   held-some : stageOf memory i ≡ 2 → heldOf memory i ≡ 0 → ⊥
   unfolding standsRight
@@ -67,44 +58,60 @@ module _ (s : Settings) (memory l t row : List ℕ) (i : ℕ) (g : Lent s memory
       let d = leb-true 1 (heldOf memory i) (and-true (leb 1 (heldOf memory i)) _ c .0) in
       omega arith
 
-  pub begun-held : stageOf memory i ≡ 2 → live (part memory (6 + i * 3 + 2) (6 + i * 3 + 3)) ≡ begun s memory i 0
+  pub begun-held : stageOf memory i ≡ 2 → live (heldOf memory i ∷ []) ≡ begun s memory i 0
   unfolding held live
-  begun-held e = ap live one ∙ live-cons (heldOf memory i) [] (held-some e) ∙ sym (begun-hand ∙ rw (eq-eqb (stageOf memory i) 2 e))
+  begun-held e = live-cons (heldOf memory i) [] (held-some e) ∙ sym (begun-hand ∙ rw (eq-eqb (stageOf memory i) 2 e))
 
-  -- ---- the queues
-  module _ (k : Kind) (q n : ℕ) where
-    module _ (hi : n < 6) (ek : k ≡ sendKind s) (eq : q ≡ sendAt s n) where
-      pub send-is : Queue k l q
-      send-is = rw (ek, eq, g .stretch) (send-queue s memory (g .looked .sized) i (g .small) (g .looked .queues i (g .small)) n hi)
+-- ---- the queues
+-- the hand has none
+pub queue-hand : (s : Settings) (memory : List ℕ) (i : ℕ) → queueRight s memory i 0 ≡ true
+unfolding queueRight
+queue-hand s memory i = refl
 
-      pub begun-send : live (contents k l q) ≡ begun s memory i (1 + n)
-      unfolding begun
-      begun-send =
-          let e : 1 + n - 1 ≡ n = omega arith in
-          rw (ek, eq, g .stretch) (send-live s memory (g .looked .sized) i (g .small) (g .looked .queues i (g .small)) n hi)
-          ∙ sym (by-send (1 + n) _ (sendItems s memory i (1 + n - 1)) _ _ [] (omega arith) (omega arith) ∙ ap (sendItems s memory i) e)
+module _ (s : Settings) (memory : List ℕ) (i n : ℕ) where
+  module _ (h : n < 6) where
+    pub queue-send : queueRight s memory i (1 + n) ≡ rightSend s memory i n
+    unfolding queueRight
+    queue-send =
+        let e : 1 + n - 1 ≡ n = omega arith in
+        by-send (1 + n) _ (rightSend s memory i (1 + n - 1)) _ _ true (omega arith) (omega arith) ∙ ap (rightSend s memory i) e
 
-    module _ (hi : n < 64) (ek : k ≡ taskKind s) (eq : q ≡ taskAt s n) where
-      pub task-is : Queue k l q
-      task-is = rw (ek, eq, g .stretch) (task-queue s memory (g .looked .sized) i (g .small) (g .looked .queues i (g .small)) n hi)
+    pub queue-ack : queueRight s memory i (7 + n) ≡ rightAck s memory n i
+    unfolding queueRight
+    queue-ack =
+        let e : 7 + n - 7 ≡ n = omega arith in
+        by-ack (7 + n) _ _ (rightAck s memory (7 + n - 7) i) _ true (omega arith) (omega arith) ∙ ap (λ (x : ℕ). rightAck s memory x i) e
 
-      pub begun-task : live (contents k l q) ≡ begun s memory i (13 + n)
-      unfolding begun
-      begun-task =
-          let e : 13 + n - 13 ≡ n = omega arith in
-          rw (ek, eq, g .stretch) (sym (by-task (13 + n) _ _ _ (live (taskItems s memory i (13 + n - 13))) [] (omega arith) (omega arith) ∙ ap (λ (x : ℕ). live (taskItems s memory i x)) e))
+    -- send and acknowledge items are blocks, so all of them are live
+    pub send-begun : (l : List ℕ) → l ≡ node s memory i → rightSend s memory i n ≡ true → live (contents (sendKind s) l (sendAt s n)) ≡ begun s memory i (1 + n)
+    unfolding begun rightSend
+    send-begun l el y =
+        let e : 1 + n - 1 ≡ n = omega arith in
+        let a = and-true (inShape (sendKind s) (node s memory i) (sendAt s n)) _ y in
+        rw el (live-blocks (s .m) (sendItems s memory i n) (and-true (not (eqb n i) || eqb (length (sendItems s memory i n)) 0) _ (a .1) .1))
+        ∙ sym (by-send (1 + n) _ (sendItems s memory i (1 + n - 1)) _ _ [] (omega arith) (omega arith) ∙ ap (sendItems s memory i) e)
 
     -- the queue stands on node n
-    module _ (m : List ℕ) (hi : n < 6) (em : m ≡ node s memory n) (ek : k ≡ ackKind s) (eq : q ≡ ackAt s i) where
-      pub ack-is : Queue k m q
-      ack-is = rw (ek, eq, em) (ack-queue s memory (g .looked .sized) n hi (g .looked .queues n hi) i (g .small))
+    pub ack-begun : (m : List ℕ) → m ≡ node s memory n → rightAck s memory n i ≡ true → live (contents (ackKind s) m (ackAt s i)) ≡ begun s memory i (7 + n)
+    unfolding begun rightAck
+    ack-begun m em y =
+        let e : 7 + n - 7 ≡ n = omega arith in
+        let a = and-true (inShape (ackKind s) (node s memory n) (ackAt s i)) _ y in
+        rw em (live-blocks (s .m) (ackItems s memory n i) (and-true (not (eqb i n) || eqb (length (ackItems s memory n i)) 0) _ (a .1) .1))
+        ∙ sym (by-ack (7 + n) _ _ (ackItems s memory (7 + n - 7) i) _ [] (omega arith) (omega arith) ∙ ap (λ (x : ℕ). ackItems s memory x i) e)
 
-      pub begun-ack : live (contents k m q) ≡ begun s memory i (7 + n)
-      unfolding begun
-      begun-ack =
-          let e : 7 + n - 7 ≡ n = omega arith in
-          rw (ek, eq, em) (ack-live s memory (g .looked .sized) n hi (g .looked .queues n hi) i (g .small))
-          ∙ sym (by-ack (7 + n) _ _ (ackItems s memory (7 + n - 7) i) _ [] (omega arith) (omega arith) ∙ ap (λ (x : ℕ). ackItems s memory x i) e)
+  module _ (h : n < 64) where
+    pub queue-task : queueRight s memory i (13 + n) ≡ rightTask s memory i n
+    unfolding queueRight
+    queue-task =
+        let e : 13 + n - 13 ≡ n = omega arith in
+        by-task (13 + n) _ _ _ (rightTask s memory i (13 + n - 13)) true (omega arith) (omega arith) ∙ ap (rightTask s memory i) e
+
+    pub task-begun : (l : List ℕ) → l ≡ node s memory i → live (contents (taskKind s) l (taskAt s n)) ≡ begun s memory i (13 + n)
+    unfolding begun
+    task-begun l el =
+        let e : 13 + n - 13 ≡ n = omega arith in
+        rw el (sym (by-task (13 + n) _ _ _ (live (taskItems s memory i (13 + n - 13))) [] (omega arith) (omega arith) ∙ ap (λ (x : ℕ). live (taskItems s memory i x)) e))
 
 -- a queue with no items begins no letter
 pub none-live : (k : Kind) (l : List ℕ) (q n : ℕ) → n ≡ items k l q → n ≡ 0 → live (contents k l q) ≡ []

@@ -1,8 +1,8 @@
--- Marks are counts: after a list is marked, each mark has risen by how often the block stands in the list. Assumes nothing.
-use mathlib.Core.Path.{_≡_, refl, sym, _∙_}
-use mathlib.Core.Bool.{Bool, true, false}
+-- Marks are counts: after a list is marked, each mark has risen by how often the block stands in the list; and tests of all numbers below one. Assumes nothing.
+use mathlib.Core.Path.{_≡_, refl, sym, ap, _∙_}
+use mathlib.Core.Bool.{Bool, true, false, _&&_}
 use mathlib.Core.List.{List, [], _∷_}
-use Prim.Native.Nat.{ℕ, _+_, _≤_, _<_}
+use Prim.Native.Nat.{ℕ, zero, suc, _+_, _≤_, _<_}
 use native.Mathlib.Numerals.{add-one}
 use native.Mathlib.Omega.{arith}
 use lib.Dec.{eqb}
@@ -12,7 +12,7 @@ use borrow.Author.Tests.{eq-eqb, eqb-true}
 use Rattle.words.specs.Count.{occurs}
 use Rattle.words.specs.Words.{every}
 use Rattle.words.proofs.Lists.{same?, and-true, and-join, and-false}
-use Rattle.sound.proofs.Tests.{and-yes}
+use Rattle.sound.proofs.Tests.{and-yes, and-cross}
 use Rattle.words.proofs.Count.{hit-self, hit-other}
 use Rattle.visits.specs.Marks.{fresh, marked}
 
@@ -46,7 +46,14 @@ once-fresh marks (x ∷ l) h f =
     (λ q e. let m = getD-set-same marks x 1 0 (h x (omega (arith, hit-self x))) in rw q (omega (arith, f x, hit-self x)))
     (λ q e. let m = getD-set-other marks x y 1 0 q in omega (arith, f y, hit-other y x q))))
 
--- ---- a test of all, kept on the way: one more that fails, and one more that holds
+-- ---- a test of all
+-- of two tests together, or of each
+pub every-and : (p q : ℕ → Bool) (n : ℕ) → every n (λ k. p k && q k) ≡ every n p && every n q
+unfolding every
+every-and p q zero = refl
+every-and p q (suc n) = ap (λ (b : Bool). b && (p n && q n)) (every-and p q n) ∙ and-cross (every n p) (every n q) (p n) (q n)
+
+-- kept on the way: one more that fails, and one more that holds
 module _ (t : ℕ → Bool) (k : ℕ) (all : Bool) where
   pub all-no : t k ≡ false → false ≡ every (k + 1) t
   unfolding every

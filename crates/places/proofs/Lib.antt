@@ -2,3 +2,5 @@ pub mod Begun
 pub mod Counts
 pub mod Ranges
 pub mod Once
+pub mod Whole
+pub mod Queues

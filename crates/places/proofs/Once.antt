@@ -1,8 +1,8 @@
--- The free list and the places of a node together: what the marks decide is the fifth and the sixth rule. Assumes nothing.
+-- The free list and the places of a node together: what the queues and the marks decide is the third, the fifth and the sixth rule. Assumes nothing.
 use mathlib.Core.Path.{_≡_, refl, sym, ap, ap₂, _∙_}
 use mathlib.Core.Bool.{Bool, true, false, _&&_, false≢true}
 use mathlib.Core.List.{List, [], _∷_}
-use Prim.Native.Nat.{ℕ, zero, suc, _+_, _-_, _≤_}
+use Prim.Native.Nat.{ℕ, zero, suc, _-_, _≤_}
 use native.Mathlib.Omega.{arith}
 use lib.Dec.{eqb}
 use lib.ListN.{length, getD, replicate, getD-replicate, List·getD-eq-default}
@@ -25,8 +25,8 @@ use Rattle.visits.specs.Marks.{fresh, marked, endsWithin, clean, Visited}
 use Rattle.visits.specs.Letters.{Judged}
 use Rattle.visits.proofs.Walks.{fresh-append, marked-append}
 use Rattle.visits.proofs.Read.{ends-within}
-use Rattle.places.specs.Given.{Lent, Blank, freeRight, placesRight, allMarked}
-use Rattle.places.proofs.Counts.{Below, marked-count, once-fresh}
+use Rattle.places.specs.Given.{Lent, Blank, freeRight, queueRight, placesRight, nodeRight, allMarked}
+use Rattle.places.proofs.Counts.{Below, marked-count, once-fresh, every-and}
 
 -- ---- the free list
 module _ (s : Settings) (l marks : List ℕ) (r : Walk) (new : List ℕ) (v : Visited s l (s .m) (getD l firstFreeAt 0) marks r new) where
@@ -119,13 +119,13 @@ module _ (s : Settings) (memory : List ℕ) (i : ℕ) where
         (λ f. rw f (sym (marks-counts f)))
         (λ f. split counted (λ e. absurd (false≢true (sym f ∙ once e))) (λ e. rw f e))
 
-  -- what the code decides is the two rules
-  pub node-rule : (zeroes : List ℕ) → Blank zeroes → s .m ≤ 1024 → eachOnce s memory i && rightLetters s memory i
+  -- what the marks decide is the fifth and the sixth rule
+  letters-rule : (zeroes : List ℕ) → Blank zeroes → s .m ≤ 1024 → eachOnce s memory i && rightLetters s memory i
       ≡ freeRight s (node s memory i) zeroes
-      && (placesRight s memory i (marked zeroes (chainFrom s (node s memory i) (getD (node s memory i) firstFreeAt 0)))
+      && ((rightLetters s memory i && fresh (marked zeroes (chainFrom s (node s memory i) (getD (node s memory i) firstFreeAt 0))) (standing s memory i 77))
       && allMarked (s .m) (marked (marked zeroes (chainFrom s (node s memory i) (getD (node s memory i) firstFreeAt 0))) (standing s memory i 77)))
-  unfolding eachOnce freeRight placesRight visits
-  node-rule zeroes blank small =
+  unfolding eachOnce freeRight visits
+  letters-rule zeroes blank small =
       split (endsWell s (node s memory i) (getD (node s memory i) firstFreeAt 0))
       (λ e. split (rightLetters s memory i)
       (λ f. rw (e, f) (and-yes counted ∙ both zeroes blank small e f ∙ regroup))
@@ -138,25 +138,44 @@ module _ (s : Settings) (memory : List ℕ) (i : ℕ) where
           ap₂ _&&_ (fresh-append zeroes free (standing s memory i 77)) (ap (allMarked (s .m)) (marked-append zeroes free (standing s memory i 77)))
           ∙ and-assoc (fresh zeroes free) (fresh (marked zeroes free) (standing s memory i 77)) (allMarked (s .m) (marked (marked zeroes free) (standing s memory i 77)))
 
+  -- what the code decides is the three rules
+  pub node-rule : (zeroes : List ℕ) → Blank zeroes → s .m ≤ 1024 → nodeRight s memory i
+      ≡ freeRight s (node s memory i) zeroes
+      && (placesRight s memory i (marked zeroes (chainFrom s (node s memory i) (getD (node s memory i) firstFreeAt 0)))
+      && allMarked (s .m) (marked (marked zeroes (chainFrom s (node s memory i) (getD (node s memory i) firstFreeAt 0))) (standing s memory i 77)))
+  unfolding nodeRight placesRight rightLetters
+  node-rule zeroes blank small =
+      let f : Bool = freeRight s (node s memory i) zeroes in
+      let h : Bool = fresh (marked zeroes free) (standing s memory i 77) in
+      let e : Bool = allMarked (s .m) (marked (marked zeroes free) (standing s memory i 77)) in
+      let letters : ℕ → Bool = λ p. all (rightLetter s (node s memory i) (tableIn memory) i p) (begun s memory i p) in
+      ap (λ (b : Bool). every 77 (queueRight s memory i) && b) (letters-rule zeroes blank small)
+      ∙ inwards (every 77 (queueRight s memory i)) f (every 77 letters) h e
+      ∙ ap (λ (b : Bool). f && ((b && h) && e)) (sym (every-and (queueRight s memory i) letters 77))
+    where
+      inwards : (q f r h e : Bool) → q && (f && ((r && h) && e)) ≡ f && (((q && r) && h) && e)
+      inwards true f r h e = refl
+      inwards false f r h e = sym (and-false f)
+
 -- ---- by the tests on the way
 module _ (s : Settings) (memory l t row : List ℕ) (i : ℕ) (g : Lent s memory l t row i) (zeroes : List ℕ) (blank : Blank zeroes) where
-  rule : eachOnce s memory i && rightLetters s memory i
+  rule : nodeRight s memory i
       ≡ freeRight s l zeroes
       && (placesRight s memory i (marked zeroes (chainFrom s l (getD l firstFreeAt 0)))
       && allMarked (s .m) (marked (marked zeroes (chainFrom s l (getD l firstFreeAt 0))) (standing s memory i 77)))
   rule = rw (g .stretch) (node-rule s memory i zeroes blank (g .looked .sized .range .m .high))
 
-  pub free-no : freeRight s l zeroes ≡ false → false ≡ eachOnce s memory i && rightLetters s memory i
+  pub free-no : freeRight s l zeroes ≡ false → false ≡ nodeRight s memory i
   free-no f = sym (rule ∙ rw f)
 
   module _ (f : freeRight s l zeroes ≡ true) (mid : List ℕ) (e : mid ≡ marked zeroes (chainFrom s l (getD l firstFreeAt 0))) where
-    rest : eachOnce s memory i && rightLetters s memory i ≡ placesRight s memory i mid && allMarked (s .m) (marked mid (standing s memory i 77))
+    rest : nodeRight s memory i ≡ placesRight s memory i mid && allMarked (s .m) (marked mid (standing s memory i 77))
     rest = rule ∙ rw (f, e)
 
-    pub places-no : placesRight s memory i mid ≡ false → false ≡ eachOnce s memory i && rightLetters s memory i
+    pub places-no : placesRight s memory i mid ≡ false → false ≡ nodeRight s memory i
     places-no h = sym (rest ∙ rw h)
 
-    pub node-is : placesRight s memory i mid ≡ true → (new : List ℕ) → new ≡ marked mid (standing s memory i 77) → (r : Bool) → r ≡ allMarked (s .m) new → r ≡ eachOnce s memory i && rightLetters s memory i
+    pub node-is : placesRight s memory i mid ≡ true → (new : List ℕ) → new ≡ marked mid (standing s memory i 77) → (r : Bool) → r ≡ allMarked (s .m) new → r ≡ nodeRight s memory i
     node-is h new d r q = q ∙ ap (allMarked (s .m)) d ∙ sym (rest ∙ rw h)
 
 pub blank-start : Blank (replicate 1025 0)

@@ -1,4 +1,4 @@
--- Letters judged one after the other: those of a queue's two runs, those of some places from a place on, and those of all. Assumes nothing.
+-- Places judged one after the other, each with its queue and its letters: some from a place on, and all. Assumes nothing.
 use mathlib.Core.Path.{_≡_, refl, sym, ap, ap₂, _∙_}
 use mathlib.Core.Bool.{Bool, true, false, _&&_, false≢true}
 use mathlib.Core.List.{List, [], _++_, append-nil, append-assoc}
@@ -10,39 +10,22 @@ use Rattle.words.specs.Words.{every, all}
 use Rattle.words.proofs.Lists.{split, every-not}
 use Rattle.settings.specs.declared.Settings.{Settings}
 use Rattle.layout.specs.Places.{node}
-use Rattle.queues.specs.Items.{live}
-use Rattle.queues.proofs.Items.{live-append}
 use Rattle.sound.specs.Reading.{tableIn}
 use Rattle.sound.specs.Letters.{rightLetter}
-use Rattle.sound.specs.Blocks.{chains, begun, standing, rightLetters}
+use Rattle.sound.specs.Blocks.{chains, begun, standing}
 use Rattle.sound.proofs.Tests.{and-assoc, and-yes, and-cross, every-more, every-same}
 use Rattle.visits.specs.Marks.{fresh, marked}
 use Rattle.visits.specs.Letters.{lettersRight, Judged}
 use Rattle.visits.proofs.Walks.{fresh-append, marked-append}
-use Rattle.visits.proofs.Judge.{right-append, marks-append, right-none}
-use Rattle.places.specs.Given.{Lent, standingFrom, rangeRight, placesRight}
-
--- ---- two runs of a queue
-module _ (s : Settings) (l t : List ℕ) (i p : ℕ) (old xs ys zs : List ℕ) (e : zs ≡ xs ++ ys) (r : Bool) (mid : List ℕ) (v : Judged (lettersRight s l t i p old (live xs)) (marked old (chains s l (live xs))) r mid) where
-  both : lettersRight s l t i p old (live zs) ≡ lettersRight s l t i p old (live xs) && lettersRight s l t i p (marked old (chains s l (live xs))) (live ys)
-  both = ap (λ (c : List ℕ). lettersRight s l t i p old (live c)) e ∙ ap (lettersRight s l t i p old) (live-append xs ys) ∙ right-append s l t i p old (live xs) (live ys)
-
-  pub runs-bad : r ≡ false → Judged (lettersRight s l t i p old (live zs)) (marked old (chains s l (live zs))) false mid
-  runs-bad f = record { is = sym (both ∙ rw (sym (v .is) ∙ f)); marks = λ z. absurd (false≢true z) }
-
-  pub runs-next : r ≡ true → (q : Bool) (new : List ℕ) → Judged (lettersRight s l t i p mid (live ys)) (marked mid (chains s l (live ys))) q new
-      → Judged (lettersRight s l t i p old (live zs)) (marked old (chains s l (live zs))) q new
-  runs-next f q new w =
-      let m = v .marks f in
-      record {
-        is = w .is ∙ sym (both ∙ rw (sym (v .is) ∙ f, m));
-        marks = λ h. w .marks h ∙ rw m (sym (ap (λ (c : List ℕ). marked old (chains s l (live c))) e ∙ ap (λ (c : List ℕ). marked old (chains s l c)) (live-append xs ys) ∙ marks-append s l t i p old (live xs) (live ys)));
-      }
+use Rattle.visits.proofs.Judge.{right-none}
+use Rattle.places.specs.Given.{Lent, queueRight, standingFrom, rangeRight, placesRight}
+use Rattle.places.proofs.Begun.{queue-hand}
 
 -- ---- the places from place a on
--- place a + j is right after the places before it are marked
+-- the queue at place a + j is right, and so are its letters after the places before it are marked
 abbrev pub rightAt : Settings → List ℕ → List ℕ → List ℕ → ℕ → ℕ → List ℕ → ℕ → Bool
-rightAt s memory l t i a old j = lettersRight s l t i (a + j) (marked old (standingFrom s memory i a j)) (begun s memory i (a + j))
+rightAt s memory l t i a old j =
+    queueRight s memory i (a + j) && lettersRight s l t i (a + j) (marked old (standingFrom s memory i a j)) (begun s memory i (a + j))
 
 module _ (s : Settings) (memory l t row : List ℕ) (i : ℕ) (g : Lent s memory l t row i) (a : ℕ) (old : List ℕ) where
   abbrev at : ℕ → Bool
@@ -53,8 +36,10 @@ module _ (s : Settings) (memory l t row : List ℕ) (i : ℕ) (g : Lent s memory
   joined zero = refl
   joined (suc n) =
       let m : List ℕ = marked old (standingFrom s memory i a n) in
-      let b : ℕ → Bool = λ p. all (rightLetter s (node s memory i) (tableIn memory) i (a + p)) (begun s memory i (a + p)) in
-      ap₂ _&&_ (joined n) (rw (g .stretch, g .table))
+      let b : ℕ → Bool = λ p. queueRight s memory i (a + p) && all (rightLetter s (node s memory i) (tableIn memory) i (a + p)) (begun s memory i (a + p)) in
+      ap₂ _&&_ (joined n)
+      (rw (g .stretch, g .table)
+      (sym (and-assoc (queueRight s memory i (a + n)) (all (rightLetter s (node s memory i) (tableIn memory) i (a + n)) (begun s memory i (a + n))) (fresh m (chains s (node s memory i) (begun s memory i (a + n)))))))
       ∙ and-cross (every n b) (fresh old (standingFrom s memory i a n)) (b n) (fresh m (chains s (node s memory i) (begun s memory i (a + n))))
       ∙ ap (λ (c : Bool). (every n b && b n) && c) (sym (fresh-append old (standingFrom s memory i a n) (chains s (node s memory i) (begun s memory i (a + n)))))
 
@@ -62,21 +47,25 @@ module _ (s : Settings) (memory l t row : List ℕ) (i : ℕ) (g : Lent s memory
   unfolding every standingFrom marked
   range-start = (refl, refl)
 
+  -- a place whose queue is not right
+  pub range-no : (k : ℕ) → queueRight s memory i (a + k) ≡ false → (n : ℕ) → k < n → (new : List ℕ) → Judged (rangeRight s memory i a n old) (marked old (standingFrom s memory i a n)) false new
+  range-no k y n h new = record { is = sym (every-not at n k h (rw y)) ∙ joined n; marks = λ z. absurd (false≢true z) }
+
   module _ (marks : List ℕ) (k : ℕ) (w : every k (rightAt s memory l t i a old) ≡ true) (e : marks ≡ marked old (standingFrom s memory i a k)) where
     pub range-end : (n : ℕ) → k ≡ n → Judged (rangeRight s memory i a n old) (marked old (standingFrom s memory i a n)) true marks
     range-end n q = record { is = sym (rw q at w) ∙ joined n; marks = λ f. e ∙ ap (λ (x : ℕ). marked old (standingFrom s memory i a x)) q }
 
     -- a place with no letter
-    pub range-none : begun s memory i (a + k) ≡ [] → (every (k + 1) (rightAt s memory l t i a old) ≡ true) × (marks ≡ marked old (standingFrom s memory i a (k + 1)))
+    pub range-none : queueRight s memory i (a + k) ≡ true → begun s memory i (a + k) ≡ [] → (every (k + 1) (rightAt s memory l t i a old) ≡ true) × (marks ≡ marked old (standingFrom s memory i a (k + 1)))
     unfolding standingFrom chains
-    range-none z = (
-      every-more at k w (rw z (right-none s l t i (a + k) (marked old (standingFrom s memory i a k)))),
+    range-none y z = (
+      every-more at k w (rw (y, z) (right-none s l t i (a + k) (marked old (standingFrom s memory i a k)))),
       rw (add-one k) (e ∙ ap (marked old) (sym (rw z (append-nil (standingFrom s memory i a k))))),
     )
 
-    module _ (r : Bool) (new : List ℕ) (v : Judged (lettersRight s l t i (a + k) marks (begun s memory i (a + k))) (marked marks (chains s l (begun s memory i (a + k)))) r new) where
+    module _ (r : Bool) (new : List ℕ) (v : Judged (queueRight s memory i (a + k) && lettersRight s l t i (a + k) marks (begun s memory i (a + k))) (marked marks (chains s l (begun s memory i (a + k)))) r new) where
       is-at : r ≡ at k
-      is-at = v .is ∙ ap (λ (m : List ℕ). lettersRight s l t i (a + k) m (begun s memory i (a + k))) e
+      is-at = v .is ∙ ap (λ (m : List ℕ). queueRight s memory i (a + k) && lettersRight s l t i (a + k) m (begun s memory i (a + k))) e
 
       pub range-bad : (n : ℕ) → k < n → r ≡ false → Judged (rangeRight s memory i a n old) (marked old (standingFrom s memory i a n)) false new
       range-bad n h f = record { is = sym (every-not at n k h (sym is-at ∙ f)) ∙ joined n; marks = λ z. absurd (false≢true z) }
@@ -100,7 +89,7 @@ module _ (s : Settings) (memory : List ℕ) (i a n : ℕ) where
       ∙ append-assoc (standingFrom s memory i a n) (standingFrom s memory i (a + n) k) (chains s (node s memory i) (begun s memory i (a + n + k))))
 
   abbrev rightOf : ℕ → Bool
-  rightOf p = all (rightLetter s (node s memory i) (tableIn memory) i p) (begun s memory i p)
+  rightOf p = queueRight s memory i p && all (rightLetter s (node s memory i) (tableIn memory) i p) (begun s memory i p)
 
   every-join : (k : ℕ) → every (n + k) (λ j. rightOf (a + j)) ≡ every n (λ j. rightOf (a + j)) && every k (λ j. rightOf (a + n + j))
   unfolding every
@@ -136,7 +125,7 @@ module _ (s : Settings) (memory : List ℕ) (i : ℕ) (old : List ℕ) where
   standing-all (suc n) = ap₂ _++_ (standing-all n) (ap (λ (x : ℕ). chains s (node s memory i) (begun s memory i x)) (zero-add n))
 
   pub places-all : (r : Bool) (new : List ℕ) → Judged (rangeRight s memory i 0 77 old) (marked old (standingFrom s memory i 0 77)) r new → Judged (placesRight s memory i old) (marked old (standing s memory i 77)) r new
-  unfolding rangeRight placesRight rightLetters
+  unfolding rangeRight placesRight
   places-all r new v =
       let e : every 77 (λ j. rightOf s memory i 0 0 (0 + j)) ≡ every 77 (rightOf s memory i 0 0) = every-same (λ j. rightOf s memory i 0 0 (0 + j)) (rightOf s memory i 0 0) 77 (λ j h. ap (rightOf s memory i 0 0) (zero-add j)) in
       record {
@@ -144,13 +133,14 @@ module _ (s : Settings) (memory : List ℕ) (i : ℕ) (old : List ℕ) where
         marks = λ f. v .marks f ∙ ap (marked old) (standing-all 77);
       }
 
--- the hand is place 0
+-- the hand is place 0, and has no queue
 pub hand-range : (s : Settings) (memory l t row : List ℕ) (i : ℕ) → Lent s memory l t row i → (old : List ℕ) (r : Bool) (new : List ℕ)
     → Judged (lettersRight s l t i 0 old (begun s memory i 0)) (marked old (chains s l (begun s memory i 0))) r new
     → Judged (rangeRight s memory i 0 1 old) (marked old (standingFrom s memory i 0 1)) r new
 hand-range s memory l t row i g old r new v =
     let b = range-start s memory l t row i g 0 old in
+    let u : Judged (queueRight s memory i 0 && lettersRight s l t i 0 old (begun s memory i 0)) (marked old (chains s l (begun s memory i 0))) r new = rw (queue-hand s memory i) v in
     split r
-    (λ f. let n = range-next s memory l t row i g 0 old old 0 (b .0) (b .1) r new v f in
+    (λ f. let n = range-next s memory l t row i g 0 old old 0 (b .0) (b .1) r new u f in
     rw f (range-end s memory l t row i g 0 old new 1 (n .0) (n .1) 1 refl))
-    (λ f. rw f (range-bad s memory l t row i g 0 old old 0 (b .0) (b .1) r new v 1 (omega arith) f))
+    (λ f. rw f (range-bad s memory l t row i g 0 old old 0 (b .0) (b .1) r new u 1 (omega arith) f))

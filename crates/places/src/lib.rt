@@ -1,21 +1,17 @@
-// The places of a node: the letters at each of them, and each block in exactly one place.
-use queues::Kind;
+// The places of a node: the queue and the letters at each of them, and each block in exactly one place.
 use settings::Settings;
 use visits::Walk;
 ghost use mathlib.Core.Path.{_≡_};
-ghost use mathlib.Core.Bool.{_&&_};
-ghost use Prim.Native.Nat.{_<_};
+ghost use Prim.Native.Nat.{_+_, _<_, _≤_};
 ghost use lib.ListN.{length, getD};
 ghost use Rattle.layout.specs.Places.{firstFreeAt};
 ghost use Rattle.layout.specs.Asked.{Stretch};
-ghost use Rattle.queues.specs.Queue.{Queue, contents};
-ghost use Rattle.queues.specs.Items.{live};
 ghost use Rattle.sound.specs.Reading.{tableIn};
 ghost use Rattle.sound.specs.Letters.{chainFrom};
-ghost use Rattle.sound.specs.Blocks.{chains, begun, standing, eachOnce, rightLetters};
+ghost use Rattle.sound.specs.Blocks.{chains, begun, standing};
 ghost use Rattle.shapes.specs.Seats.{Seats};
 ghost use Rattle.visits.specs.Marks.{marked};
-ghost use Rattle.visits.specs.Letters.{lettersRight, Judged, Placing};
+ghost use Rattle.visits.specs.Letters.{lettersRight, Judged};
 ghost use Rattle.places.specs.Given.{
   Looked,
   Lent,
@@ -24,6 +20,7 @@ ghost use Rattle.places.specs.Given.{
   standingFrom,
   rangeRight,
   placesRight,
+  nodeRight,
   allMarked,
 };
 
@@ -45,47 +42,10 @@ fn is_right_hand(
     if memory[at] != 2 {
         return true;
     }
-    let a = at + 2;
-    let e = at + 3;
-    visits::are_right_letters(&memory[a..e], node, s, table, seats, marks, i, 0)
+    visits::is_right_letter(node, s, table, seats, marks, i, 0, memory[at + 2])
 }
 
-// The letters of the items of a queue, as they stand: one run of words, or two where they run round.
-fn are_right_items(
-    queue: &[u32],
-    k: Kind,
-    q: usize,
-    node: &[u32],
-    s: Settings,
-    table: &[u32],
-    seats: &[u32],
-    marks: &mut [u8],
-    i: usize,
-    p: usize,
-) -> bool
-    requires { ⌜ Queue k (now queue) q ⌝ }
-    requires { ⌜ Placing s (now node) (now table) (now seats) i p ⌝ }
-    requires { ⌜ s .m < length (now marks) ⌝ }
-    ensures { λ r. ⌜ Judged (lettersRight s (now (node .entry)) (now (table .entry)) i p (now (marks .entry)) (live (contents k (now (queue .entry)) q))) (marked (now (marks .entry)) (chains s (now (node .entry)) (live (contents k (now (queue .entry)) q)))) r (now (marks .exit)) ⌝ }
-{
-    let first = queue[q] as usize;
-    let count = queue[q + 1] as usize;
-    let end = first + count;
-    let base = q + k.head;
-    let a = base + first;
-    if k.slots < end {
-        let e = base + k.slots;
-        if !visits::are_right_letters(&queue[a..e], node, s, table, seats, marks, i, p) {
-            return false;
-        }
-        let f = base + (end - k.slots);
-        return visits::are_right_letters(&queue[base..f], node, s, table, seats, marks, i, p);
-    }
-    let e = base + end;
-    visits::are_right_letters(&queue[a..e], node, s, table, seats, marks, i, p)
-}
-
-// The letters of the six send queues, places 1 to 6.
+// The six send queues and their letters, places 1 to 6; most queues have no items, and that is looked at first.
 fn are_right_sends(
     memory: &[u32],
     node: &[u32],
@@ -103,8 +63,27 @@ fn are_right_sends(
     let mut k: usize = 0;
     while k < 6 {
         let q = layout::send_at(s, k);
-        if queues::items_of(node, kind, q) != 0 {
-            if !are_right_items(node, kind, q, node, s, table, seats, marks, i, 1 + k) {
+        if shapes::is_empty(node, kind, q) {
+            if !shapes::is_right_empty(node, kind, q) {
+                return false;
+            }
+        } else {
+            if k == i {
+                return false;
+            }
+            if !judging::is_filled_post(
+                node,
+                kind,
+                q,
+                node,
+                s,
+                table,
+                seats,
+                marks,
+                i,
+                1 + k,
+                k as u32,
+            ) {
                 return false;
             }
         }
@@ -113,7 +92,7 @@ fn are_right_sends(
     true
 }
 
-// The letters of node i in acknowledge queue i on the six nodes, places 7 to 12.
+// Acknowledge queue i on the six nodes and its letters, places 7 to 12.
 fn are_right_acks(
     memory: &[u32],
     node: &[u32],
@@ -134,8 +113,15 @@ fn are_right_acks(
     while k < 6 {
         let a = layout::node_at(s, k);
         let e = a + size;
-        if queues::items_of(&memory[a..e], kind, q) != 0 {
-            if !are_right_items(
+        if shapes::is_empty(&memory[a..e], kind, q) {
+            if !shapes::is_right_empty(&memory[a..e], kind, q) {
+                return false;
+            }
+        } else {
+            if k == i {
+                return false;
+            }
+            if !judging::is_filled_post(
                 &memory[a..e],
                 kind,
                 q,
@@ -146,6 +132,7 @@ fn are_right_acks(
                 marks,
                 i,
                 7 + k,
+                k as u32,
             ) {
                 return false;
             }
@@ -155,7 +142,8 @@ fn are_right_acks(
     true
 }
 
-// The letters of the 64 task queues, places 13 to 76; most queues have no items, and that is looked at first.
+// The task queues from `first` on, 32 of them, and their letters. It is called for each half of the 64: a function with two callers stays one,
+// and keeps what it counts with in registers.
 fn are_right_tasks(
     memory: &[u32],
     node: &[u32],
@@ -164,17 +152,38 @@ fn are_right_tasks(
     seats: &[u32],
     marks: &mut [u8],
     i: usize,
+    first: usize,
 ) -> bool
     requires { ⌜ Lent s (now memory) (now node) (now table) (now seats) i ⌝ }
     requires { ⌜ s .m < length (now marks) ⌝ }
-    ensures { λ r. ⌜ Judged (rangeRight s (now (memory .entry)) i 13 64 (now (marks .entry))) (marked (now (marks .entry)) (standingFrom s (now (memory .entry)) i 13 64)) r (now (marks .exit)) ⌝ }
+    requires { ⌜ first ≤ 32 ⌝ }
+    ensures { λ r. ⌜ Judged (rangeRight s (now (memory .entry)) i (13 + first) 32 (now (marks .entry))) (marked (now (marks .entry)) (standingFrom s (now (memory .entry)) i (13 + first) 32)) r (now (marks .exit)) ⌝ }
 {
     let kind = queues::task_kind(s);
     let mut k: usize = 0;
-    while k < 64 {
-        let q = layout::task_at(s, k);
-        if queues::items_of(node, kind, q) != 0 {
-            if !are_right_items(node, kind, q, node, s, table, seats, marks, i, 13 + k) {
+    while k < 32 {
+        let q = layout::task_at(s, first + k);
+        if shapes::is_empty(node, kind, q) {
+            if node[q + 2] != 0 {
+                return false;
+            }
+            if !shapes::is_right_empty(node, kind, q) {
+                return false;
+            }
+        } else {
+            let task = seats[i * 64 + (first + k)];
+            if !judging::is_filled_seat(
+                node,
+                kind,
+                q,
+                s,
+                table,
+                seats,
+                marks,
+                i,
+                13 + first + k,
+                task,
+            ) {
                 return false;
             }
         }
@@ -183,7 +192,7 @@ fn are_right_tasks(
     true
 }
 
-// The letters at the 77 places of node i.
+// The queues and the letters at the 77 places of node i.
 fn are_right_places(
     memory: &[u32],
     node: &[u32],
@@ -206,7 +215,10 @@ fn are_right_places(
     if !are_right_acks(memory, node, s, table, seats, marks, i) {
         return false;
     }
-    are_right_tasks(memory, node, s, table, seats, marks, i)
+    if !are_right_tasks(memory, node, s, table, seats, marks, i, 0) {
+        return false;
+    }
+    are_right_tasks(memory, node, s, table, seats, marks, i, 32)
 }
 
 // The free list.
@@ -238,7 +250,7 @@ fn are_all_marked(marks: &[u8], m: usize) -> bool
     all
 }
 
-// The fifth and the sixth rule in node i, with no block marked yet.
+// The third, the fifth and the sixth rule over the places of node i, with no block marked yet.
 fn is_right_marked(
     memory: &[u32],
     node: &[u32],
@@ -250,7 +262,7 @@ fn is_right_marked(
 ) -> bool
     requires { ⌜ Lent s (now memory) (now node) (now table) (now seats) i ⌝ }
     requires { ⌜ Blank (now marks) ⌝ }
-    ensures { λ r. ⌜ r ≡ (eachOnce s (now (memory .entry)) i && rightLetters s (now (memory .entry)) i) ⌝ }
+    ensures { λ r. ⌜ r ≡ nodeRight s (now (memory .entry)) i ⌝ }
 {
     if !is_right_free(node, s, marks) {
         return false;
@@ -261,12 +273,12 @@ fn is_right_marked(
     are_all_marked(marks, s.m)
 }
 
-// The fifth and the sixth rule in node i.
+// The third, the fifth and the sixth rule over the places of node i.
 pub fn is_right_node(memory: &[u32], s: Settings, seats: &[u32], i: usize) -> bool
     requires { ⌜ Looked s (now memory) ⌝ }
     requires { ⌜ Seats (tableIn (now memory)) (now seats) ⌝ }
     requires { ⌜ i < 6 ⌝ }
-    ensures { λ r. ⌜ r ≡ (eachOnce s (now (memory .entry)) i && rightLetters s (now (memory .entry)) i) ⌝ }
+    ensures { λ r. ⌜ r ≡ nodeRight s (now (memory .entry)) i ⌝ }
 {
     let mut marks = [0u8; 1025];
     let size = layout::node_size(s);

@@ -8,10 +8,11 @@ use native.Mathlib.Omega.{arith}
 use mathlib.Core.Logic.{⊎-elim}
 use lib.Dec.{eqb, ltb}
 use lib.ListN.{getD}
-use lib.Bits.{bitOr, or-zero-l, or-add-and, and-le-r}
-use borrow.Author.Tests.{eqb-true, eq-eqb, ne-eqb, lt-ltb, le-ltb, le-leb}
+use lib.Bits.{bitOr}
+use borrow.Author.Tests.{eqb-true, eq-eqb, lt-ltb, le-ltb, le-leb}
 use Rattle.words.specs.Words.{every}
-use Rattle.words.proofs.Lists.{same?, le-or-lt, and-true, and-join, same-test, every-at, every-all}
+use Rattle.words.proofs.Bits.{or-zero}
+use Rattle.words.proofs.Lists.{le-or-lt, and-true, and-join, same-test, every-at, every-all}
 use Rattle.queues.specs.declared.Kind.{Kind}
 use Rattle.queues.specs.Queue.{start, items, itemAt}
 use Rattle.sound.specs.Queues.{inShape}
@@ -19,13 +20,6 @@ use Rattle.sound.proofs.Tests.{every-none}
 use Rattle.shapes.specs.Shape.{zeroes, clearOutside}
 
 -- ---- words that are 0
--- two words joined are 0 when both are
-or-zero : (a b : ℕ) → eqb (bitOr a b) 0 ≡ eqb a 0 && eqb b 0
-or-zero a b =
-    same? a 0
-    (λ z e. rw (e, z, or-zero-l b))
-    (λ z e. rw e (ne-eqb (bitOr a b) 0 (λ y. let s = or-add-and a b in let t = and-le-r a b in z (omega arith))))
-
 module _ (l : List ℕ) (a e : ℕ) where
   abbrev zero : ℕ → Bool
   zero i = eqb (getD l (a + i) 0) 0

@@ -1,4 +1,4 @@
--- What each test of a queue decides, and what a turn of each loop passes. Assumes nothing.
+-- What each test of a queue decides. Assumes nothing.
 use mathlib.Core.Path.{_≡_, refl, sym, ap, _∙_}
 use mathlib.Core.Bool.{Bool, true, false, _&&_, _||_, not}
 use mathlib.Core.List.{List, _++_}
@@ -19,39 +19,6 @@ use Rattle.queues.proofs.Ring.{length-run}
 use Rattle.sound.specs.Queues.{inShape}
 use Rattle.sound.proofs.Tests.{no-second, all-none, all-step, all-same, all-append}
 use Rattle.shapes.specs.Shape.{itemsWithin, rightPost, rightSeat}
-
--- ---- the items of a row, one after the other: what is left from the i-th on decides
-module _ (least most : ℕ) (xs : List ℕ) (i : ℕ) (r : Bool) (e : r ≡ itemsWithin least most (drop i xs)) where
-  pub within-low : i < length xs → getD xs i 0 < least → false ≡ r
-  unfolding itemsWithin
-  within-low h g = sym (e ∙ ap (all _) (drop-cons xs i 0 h) ∙ all-step _ _ _ ∙ rw (lt-leb least (getD xs i 0) g))
-
-  pub within-high : i < length xs → most < getD xs i 0 → false ≡ r
-  unfolding itemsWithin
-  within-high h g =
-      sym (e ∙ ap (all _) (drop-cons xs i 0 h) ∙ all-step _ _ _
-      ∙ rw (lt-leb (getD xs i 0) most g, and-false (leb least (getD xs i 0))))
-
-  pub within-more : i < length xs → least ≤ getD xs i 0 → getD xs i 0 ≤ most → r ≡ itemsWithin least most (drop (i + 1) xs)
-  unfolding itemsWithin
-  within-more h g f =
-      rw (add-one i) (e ∙ ap (all _) (drop-cons xs i 0 h) ∙ all-step _ _ _ ∙ rw (le-leb least (getD xs i 0) g, le-leb (getD xs i 0) most f))
-
-  pub within-none : length xs ≤ i → true ≡ r
-  unfolding itemsWithin
-  within-none h = sym (e ∙ ap (all _) (drop-of-length-le xs h) ∙ all-none _)
-
--- those of two rows, one behind the other
-module _ (least most : ℕ) (xs ys zs : List ℕ) (e : zs ≡ xs ++ ys) (r : Bool) (v : r ≡ itemsWithin least most xs) where
-  two : itemsWithin least most zs ≡ itemsWithin least most xs && itemsWithin least most ys
-  unfolding itemsWithin
-  two = ap (all _) e ∙ all-append _ xs ys
-
-  pub runs-no : r ≡ false → false ≡ itemsWithin least most zs
-  runs-no f = sym (two ∙ rw (sym v ∙ f))
-
-  pub runs-yes : r ≡ true → (b : Bool) → b ≡ itemsWithin least most ys → b ≡ itemsWithin least most zs
-  runs-yes f b u = u ∙ sym (two ∙ rw (sym v ∙ f))
 
 module _ (k : Kind) (l : List ℕ) (q : ℕ) where
   pub shape-start : k .slots ≤ start k l q → false ≡ inShape k l q
@@ -126,22 +93,7 @@ module _ (k : Kind) (l : List ℕ) (q m task : ℕ) where
     unfolding run
     first = let d : items k l q ≡ suc (items k l q - 1) = omega arith in ap (λ (n : ℕ). getD (run k l q 0 n) 0 0) d
 
-    same-within : itemsWithin 0 m (contents k l q) ≡ all (λ b. leb b m) (contents k l q)
-    unfolding itemsWithin
-    same-within = all-same (λ b. leb 0 b && leb b m) (λ b. leb b m) (contents k l q) (λ b. rw (leb·zero b))
-
-    pub seat-high : inShape k l q && itemsWithin 0 m (contents k l q) ≡ false → false ≡ rightSeat k l q m task
-    unfolding rightSeat
-    seat-high f =
-        split (inShape k l q)
-        (λ e. let g : itemsWithin 0 m (contents k l q) ≡ false = rw e at f in
-        rw (e, sym same-within ∙ g) (no-second (not (eqb task 0) || eqb (length (contents k l q)) 0) false refl))
-        (λ e. rw e)
-
-    module _ (e : inShape k l q && itemsWithin 0 m (contents k l q) ≡ true) where
-      shaped : inShape k l q ≡ true
-      shaped = and-true (inShape k l q) (itemsWithin 0 m (contents k l q)) e .0
-
+    module _ (shaped : inShape k l q ≡ true) (high : all (λ b. leb b m) (contents k l q) ≡ true) where
       pub seat-gap : itemAt k l q 0 ≡ 0 → false ≡ rightSeat k l q m task
       unfolding rightSeat
       seat-gap z =
@@ -150,6 +102,4 @@ module _ (k : Kind) (l : List ℕ) (q m task : ℕ) where
 
       pub seat-flag : (task ≡ 0 → ⊥) → (itemAt k l q 0 ≡ 0 → ⊥) → (r : Bool) → r ≡ eqb (getD l (q + gapWord) 0) (gapFlag (contents k l q)) → r ≡ rightSeat k l q m task
       unfolding rightSeat
-      seat-flag t i r z =
-          let f = and-true (inShape k l q) (itemsWithin 0 m (contents k l q)) e .1 in
-          rw (shaped, ne-eqb task 0 t, sym same-within ∙ f, some, ne-eqb (getD (contents k l q) 0 0) 0 (λ y. i (sym first ∙ y))) z
+      seat-flag t i r z = rw (shaped, ne-eqb task 0 t, high, some, ne-eqb (getD (contents k l q) 0 0) 0 (λ y. i (sym first ∙ y))) z

@@ -1,24 +1,12 @@
-// The third rule of a sound memory: the queues of a node.
+// The shape of a queue: where it starts, how many items it has, and the slots outside them.
 use queues::Kind;
-use settings::Settings;
 ghost use mathlib.Core.Path.{_≡_};
-ghost use mathlib.Core.Bool.{_&&_};
 ghost use Prim.Native.Nat.{_<_, _≤_};
+ghost use lib.Dec.{eqb};
 ghost use lib.ListN.{length};
-ghost use Rattle.layout.specs.Asked.{Stretch};
-ghost use Rattle.queues.specs.Queue.{Queue, Placed, start, items, contents};
+ghost use Rattle.queues.specs.Queue.{Placed, start, items};
 ghost use Rattle.sound.specs.Queues.{inShape};
-ghost use Rattle.shapes.specs.Shape.{
-  zeroes,
-  clearOutside,
-  itemsWithin,
-  rightPost,
-  rightSeat,
-  rightSends,
-  rightAcks,
-  rightSeats,
-  rightStretch,
-};
+ghost use Rattle.shapes.specs.Shape.{zeroes, clearOutside};
 
 // Whether the words from a on, before e, are 0. All are joined and then looked at, so that the compiler may take many at a time.
 fn are_zero(node: &[u32], a: usize, e: usize) -> bool
@@ -53,7 +41,7 @@ fn is_clear(node: &[u32], k: Kind, q: usize, first: usize, count: usize) -> bool
 }
 
 // Whether the start is below the queue's length, the items at most it, and the slots outside the items 0.
-fn is_in_shape(node: &[u32], k: Kind, q: usize) -> bool
+pub fn is_in_shape(node: &[u32], k: Kind, q: usize) -> bool
     requires { ⌜ Placed k (now node) q ⌝ }
     ensures { λ r. ⌜ r ≡ inShape k (now (node .entry)) q ⌝ }
 {
@@ -68,48 +56,16 @@ fn is_in_shape(node: &[u32], k: Kind, q: usize) -> bool
     is_clear(node, k, q, first, count)
 }
 
-// Whether the items of a row lie between the two, both included.
-fn are_within(row: &[u32], least: usize, most: usize) -> bool
-    ensures { λ r. ⌜ r ≡ itemsWithin least most (now (row .entry)) ⌝ }
+// Whether a queue has no items.
+pub fn is_empty(node: &[u32], k: Kind, q: usize) -> bool
+    requires { ⌜ Placed k (now node) q ⌝ }
+    ensures { λ r. ⌜ r ≡ eqb (items k (now (node .entry)) q) 0 ⌝ }
 {
-    let mut i: usize = 0;
-    while i < row.len() {
-        let b = row[i] as usize;
-        if b < least {
-            return false;
-        }
-        if most < b {
-            return false;
-        }
-        i += 1;
-    }
-    true
-}
-
-// The same of the items of a queue, as they stand: one run of words, or two where they run round.
-fn are_items_within(node: &[u32], k: Kind, q: usize, least: usize, most: usize) -> bool
-    requires { ⌜ Queue k (now node) q ⌝ }
-    ensures { λ r. ⌜ r ≡ itemsWithin least most (contents k (now (node .entry)) q) ⌝ }
-{
-    let first = node[q] as usize;
-    let count = node[q + 1] as usize;
-    let end = first + count;
-    let base = q + k.head;
-    let a = base + first;
-    if k.slots < end {
-        let e = base + k.slots;
-        if !are_within(&node[a..e], least, most) {
-            return false;
-        }
-        let f = base + (end - k.slots);
-        return are_within(&node[base..f], least, most);
-    }
-    let e = base + end;
-    are_within(&node[a..e], least, most)
+    node[q + 1] == 0
 }
 
 // Whether a queue with no items is in shape.
-fn is_right_empty(node: &[u32], k: Kind, q: usize) -> bool
+pub fn is_right_empty(node: &[u32], k: Kind, q: usize) -> bool
     requires { ⌜ Placed k (now node) q ⌝ }
     requires { ⌜ items k (now node) q ≡ 0 ⌝ }
     ensures { λ r. ⌜ r ≡ inShape k (now (node .entry)) q ⌝ }
@@ -120,142 +76,4 @@ fn is_right_empty(node: &[u32], k: Kind, q: usize) -> bool
     }
     let base = q + k.head;
     are_zero(node, base, base + k.slots)
-}
-
-// Whether a queue is in shape and its items lie between the two.
-fn is_filled(node: &[u32], k: Kind, q: usize, least: usize, most: usize) -> bool
-    requires { ⌜ Placed k (now node) q ⌝ }
-    ensures { λ r. ⌜ r ≡ (inShape k (now (node .entry)) q && itemsWithin least most (contents k (now (node .entry)) q)) ⌝ }
-{
-    if !is_in_shape(node, k, q) {
-        return false;
-    }
-    are_items_within(node, k, q, least, most)
-}
-
-// Whether a send or acknowledge queue that has items is right; `own`: it is the node's queue to itself.
-fn is_filled_post(node: &[u32], k: Kind, q: usize, m: usize, own: bool) -> bool
-    requires { ⌜ Placed k (now node) q ⌝ }
-    requires { ⌜ 1 ≤ items k (now node) q ⌝ }
-    ensures { λ r. ⌜ r ≡ rightPost k (now (node .entry)) q m own ⌝ }
-{
-    if own {
-        return false;
-    }
-    is_filled(node, k, q, 1, m)
-}
-
-// The same of any send or acknowledge queue: most have no items, and that is looked at first.
-fn is_right_post(node: &[u32], k: Kind, q: usize, m: usize, own: bool) -> bool
-    requires { ⌜ Placed k (now node) q ⌝ }
-    ensures { λ r. ⌜ r ≡ rightPost k (now (node .entry)) q m own ⌝ }
-{
-    if node[q + 1] == 0 {
-        return is_right_empty(node, k, q);
-    }
-    is_filled_post(node, k, q, m, own)
-}
-
-// Whether a task queue that has items is right; `task`: the task that it is bound to, 0 for none.
-fn is_filled_seat(node: &[u32], k: Kind, q: usize, m: usize, task: u32) -> bool
-    requires { ⌜ Placed k (now node) q ⌝ }
-    requires { ⌜ 3 ≤ k .head ⌝ }
-    requires { ⌜ 1 ≤ items k (now node) q ⌝ }
-    ensures { λ r. ⌜ r ≡ rightSeat k (now (node .entry)) q m task ⌝ }
-{
-    if task == 0 {
-        return false;
-    }
-    if !is_filled(node, k, q, 0, m) {
-        return false;
-    }
-    if queues::item(node, k, q, 0) == 0 {
-        return false;
-    }
-    node[q + 2] == taking::gap_flag(node, k, q)
-}
-
-// The same of any task queue: most have no items, and that is looked at first.
-fn is_right_seat(node: &[u32], k: Kind, q: usize, m: usize, task: u32) -> bool
-    requires { ⌜ Placed k (now node) q ⌝ }
-    requires { ⌜ 3 ≤ k .head ⌝ }
-    ensures { λ r. ⌜ r ≡ rightSeat k (now (node .entry)) q m task ⌝ }
-{
-    if node[q + 1] == 0 {
-        if node[q + 2] != 0 {
-            return false;
-        }
-        return is_right_empty(node, k, q);
-    }
-    is_filled_seat(node, k, q, m, task)
-}
-
-// Whether the six send queues of node i are right.
-fn are_right_sends(node: &[u32], s: Settings, i: usize) -> bool
-    requires { ⌜ Stretch s (now node) ⌝ }
-    ensures { λ r. ⌜ r ≡ rightSends s (now (node .entry)) i ⌝ }
-{
-    let kind = queues::send_kind(s);
-    let mut k: usize = 0;
-    while k < 6 {
-        let q = layout::send_at(s, k);
-        if !is_right_post(node, kind, q, s.m, k == i) {
-            return false;
-        }
-        k += 1;
-    }
-    true
-}
-
-// Whether the six acknowledge queues of node i are right.
-fn are_right_acks(node: &[u32], s: Settings, i: usize) -> bool
-    requires { ⌜ Stretch s (now node) ⌝ }
-    ensures { λ r. ⌜ r ≡ rightAcks s (now (node .entry)) i ⌝ }
-{
-    let kind = queues::ack_kind(s);
-    let mut k: usize = 0;
-    while k < 6 {
-        let q = layout::ack_at(s, k);
-        if !is_right_post(node, kind, q, s.m, k == i) {
-            return false;
-        }
-        k += 1;
-    }
-    true
-}
-
-// Whether the 64 task queues of node i are right.
-fn are_right_seats(node: &[u32], s: Settings, seats: &[u32], i: usize) -> bool
-    requires { ⌜ Stretch s (now node) ⌝ }
-    requires { ⌜ length (now seats) ≡ 384 ⌝ }
-    requires { ⌜ i < 6 ⌝ }
-    ensures { λ r. ⌜ r ≡ rightSeats s (now (node .entry)) i (now (seats .entry)) ⌝ }
-{
-    let kind = queues::task_kind(s);
-    let mut q: usize = 0;
-    while q < 64 {
-        let at = layout::task_at(s, q);
-        let task = seats[i * 64 + q];
-        if !is_right_seat(node, kind, at, s.m, task) {
-            return false;
-        }
-        q += 1;
-    }
-    true
-}
-
-// The third rule, of the stretch of node i.
-pub fn is_right_stretch(node: &[u32], s: Settings, seats: &[u32], i: usize) -> bool
-    requires { ⌜ Stretch s (now node) ⌝ }
-    requires { ⌜ length (now seats) ≡ 384 ⌝ }
-    requires { ⌜ i < 6 ⌝ }
-    ensures { λ r. ⌜ r ≡ rightStretch s (now (node .entry)) i (now (seats .entry)) ⌝ }
-{
-    if !are_right_sends(node, s, i) {
-        return false;
-    }
-    if !are_right_acks(node, s, i) {
-        return false;
-    }
-    are_right_seats(node, s, seats, i)
 }

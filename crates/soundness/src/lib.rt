@@ -3,21 +3,29 @@ use settings::MadeSettings;
 use settings::Settings;
 ghost use mathlib.Core.Path.{_≡_};
 ghost use mathlib.Core.Bool.{true, _&&_};
-ghost use Prim.Native.Nat.{_<_};
+ghost use Prim.Native.Nat.{_+_, _<_};
+ghost use lib.ListN.{length, getD};
 ghost use Rattle.words.specs.Words.{every};
 ghost use Rattle.layout.specs.Places.{nodes};
 ghost use Rattle.layout.specs.Asked.{Sized};
 ghost use Rattle.tasks.specs.Table.{rightTable};
 ghost use Rattle.sound.specs.Reading.{tableIn};
-ghost use Rattle.sound.specs.Queues.{rightQueues};
 ghost use Rattle.sound.specs.Sound.{sound};
 ghost use Rattle.shapes.specs.Seats.{Seats};
-ghost use Rattle.places.specs.Given.{standsRight, Looked};
-ghost use Rattle.soundness.specs.Parts.{isOther, nodeRight, seatedRight, Queued};
+ghost use Rattle.places.specs.Given.{standsRight, Looked, nodeRight};
+ghost use Rattle.soundness.specs.Parts.{isOther, seatedRight};
+
+// The items word of the queue at word q.
+fn items_at(node: &[u32], q: usize) -> u32
+    requires { ⌜ q + 1 < length (now node) ⌝ }
+    ensures { λ r. ⌜ r ≡ getD (now (node .entry)) (q + 1) 0 ⌝ }
+{
+    node[q + 1]
+}
 
 // Whether `other` is another node than j, whose send queue to j has an item.
 fn is_other(memory: &[u32], s: Settings, j: usize, other: usize) -> bool
-    requires { ⌜ Queued s (now memory) ⌝ }
+    requires { ⌜ Sized s (now memory) ⌝ }
     requires { ⌜ j < 6 ⌝ }
     ensures { λ r. ⌜ r ≡ isOther s (now (memory .entry)) j other ⌝ }
 {
@@ -30,14 +38,13 @@ fn is_other(memory: &[u32], s: Settings, j: usize, other: usize) -> bool
     let size = layout::node_size(s);
     let a = layout::node_at(s, other);
     let e = a + size;
-    let k = queues::send_kind(s);
     let q = layout::send_at(s, j);
-    1 <= queues::items_of(&memory[a..e], k, q)
+    1 <= items_at(&memory[a..e], q)
 }
 
 // Whether the position of node j's postman is right, but for the comparison of letters.
 fn is_standing(memory: &[u32], s: Settings, j: usize) -> bool
-    requires { ⌜ Queued s (now memory) ⌝ }
+    requires { ⌜ Sized s (now memory) ⌝ }
     requires { ⌜ j < 6 ⌝ }
     ensures { λ r. ⌜ r ≡ standsRight s (now (memory .entry)) j ⌝ }
 {
@@ -68,7 +75,7 @@ fn is_standing(memory: &[u32], s: Settings, j: usize) -> bool
 
 // The same of every node.
 fn are_standing(memory: &[u32], s: Settings) -> bool
-    requires { ⌜ Queued s (now memory) ⌝ }
+    requires { ⌜ Sized s (now memory) ⌝ }
     ensures { λ r. ⌜ r ≡ every nodes (standsRight s (now (memory .entry))) ⌝ }
 {
     let mut j: usize = 0;
@@ -81,26 +88,7 @@ fn are_standing(memory: &[u32], s: Settings) -> bool
     true
 }
 
-// The third rule, in every node.
-fn are_right_queues(memory: &[u32], s: Settings, seats: &[u32]) -> bool
-    requires { ⌜ Sized s (now memory) ⌝ }
-    requires { ⌜ Seats (tableIn (now memory)) (now seats) ⌝ }
-    ensures { λ r. ⌜ r ≡ every nodes (rightQueues s (now (memory .entry))) ⌝ }
-{
-    let size = layout::node_size(s);
-    let mut i: usize = 0;
-    while i < 6 {
-        let a = layout::node_at(s, i);
-        let e = a + size;
-        if !shapes::is_right_stretch(&memory[a..e], s, seats, i) {
-            return false;
-        }
-        i += 1;
-    }
-    true
-}
-
-// The fifth and the sixth rule, in every node.
+// The third, the fifth and the sixth rule over the places of every node.
 fn are_right_nodes(memory: &[u32], s: Settings, seats: &[u32]) -> bool
     requires { ⌜ Looked s (now memory) ⌝ }
     requires { ⌜ Seats (tableIn (now memory)) (now seats) ⌝ }
@@ -123,9 +111,6 @@ fn is_right_seated(memory: &[u32], s: Settings, seats: &[u32]) -> bool
     requires { ⌜ Seats (tableIn (now memory)) (now seats) ⌝ }
     ensures { λ r. ⌜ r ≡ seatedRight s (now (memory .entry)) ⌝ }
 {
-    if !are_right_queues(memory, s, seats) {
-        return false;
-    }
     if !are_standing(memory, s) {
         return false;
     }

@@ -3,7 +3,7 @@ use mathlib.Core.Path.{_≡_, refl, sym, ap, ap₂, _∙_}
 use mathlib.Core.Logic.{⊎-elim}
 use mathlib.Core.Bool.{Bool, true, false, _&&_, false≢true}
 use mathlib.Core.List.{List, [], _∷_, _++_, append-nil, append-assoc}
-use Prim.Native.Nat.{ℕ, _+_, _-_, _≤_, _<_}
+use Prim.Native.Nat.{ℕ, _-_, _≤_, _<_}
 use native.Mathlib.Omega.{arith}
 use lib.Dec.{eqb}
 use lib.ListN.{length, getD}
@@ -11,10 +11,8 @@ use borrow.Author.Tests.{ne-eqb, lt-ltb, le-ltb}
 use Rattle.words.specs.Words.{all}
 use Rattle.words.proofs.Lists.{split, same?, and-true, and-false, le-or-lt, told-no, told-yes}
 use Rattle.settings.specs.declared.Settings.{Settings}
-use Rattle.layout.specs.Places.{blockAt}
 use Rattle.layout.proofs.NodeRows.{by-head, by-send, by-ack, by-task}
 use Rattle.letters.specs.Letter.{word}
-use Rattle.letters.proofs.Steps.{near-is}
 use Rattle.tasks.specs.Table.{holdsNone, nodeOf, isBound, rightTable}
 use Rattle.tasks.proofs.Laws.{seat-within}
 use Rattle.queues.specs.Items.{live}
@@ -30,7 +28,7 @@ use Rattle.visits.specs.declared.Walk.the-variants.{Ended, Bad}
 use Rattle.visits.specs.Marks.{fresh, marked, endsWithin, clean, Visited}
 use Rattle.visits.specs.Letters.{isOn, isFromTo, isAtPlace, lettersRight, Judged, Placing, Readable}
 use Rattle.visits.proofs.Walks.{fresh-append, marked-append}
-use Rattle.visits.proofs.Read.{head-word, word-lies}
+use Rattle.visits.proofs.Read.{head-word}
 
 -- ---- the header
 module _ (t : List ℕ) (task node : ℕ) where
@@ -47,8 +45,8 @@ module _ (t : List ℕ) (task node : ℕ) where
         (λ e. let w = seat-within t task r e in rw (e, ne-eqb (nodeOf t task) node (λ z. omega arith)))
         (λ e. rw e)
 
-    -- and a task with such a node is bound
-    pub on-is : task ≤ 255 → node ≤ 5 → eqb (nodeOf t task) node ≡ isOn t task node
+    -- and a task whose node is below 255 is bound
+    pub on-is : task ≤ 255 → node < 255 → eqb (nodeOf t task) node ≡ isOn t task node
     unfolding isOn isBound holdsNone
     on-is h g =
         same? (nodeOf t task) node
@@ -72,6 +70,10 @@ module _ (seats : List ℕ) (i p from task to : ℕ) where
   unfolding isAtPlace
   at-task g h = sym (by-task p true (isFromTo from to i (p - 1)) (isFromTo from to i (p - 7)) (eqb task (getD seats (seatAt i (p - 13)) 0)) true g h)
 
+pub header-is : (t ws : List ℕ) → rightHeader t ws ≡ isOn t (getD ws 0 0) (getD ws 1 0) && isOn t (getD ws 2 0) (getD ws 3 0)
+unfolding rightHeader isOn
+header-is t ws = sym (and-assoc (isBound t (getD ws 0 0)) (eqb (nodeOf t (getD ws 0 0)) (getD ws 1 0)) _)
+
 module _ (s : Settings) (l t seats : List ℕ) (i p : ℕ) (g : Placing s l t seats i p) (ws : List ℕ) where
   pub place-is : isAtPlace seats i p (getD ws 1 0) (getD ws 2 0) (getD ws 3 0) ≡ rightPlace t i p ws
   unfolding isAtPlace rightPlace isFromTo
@@ -89,15 +91,11 @@ module _ (s : Settings) (l t seats : List ℕ) (i p : ℕ) (g : Placing s l t se
       (le-or-lt 7 p))
       (le-or-lt 13 p)
 
-  pub header-is : rightHeader t ws ≡ isOn t (getD ws 0 0) (getD ws 1 0) && isOn t (getD ws 2 0) (getD ws 3 0)
-  unfolding rightHeader isOn
-  header-is = sym (and-assoc (isBound t (getD ws 0 0)) (eqb (nodeOf t (getD ws 0 0)) (getD ws 1 0)) _)
-
   -- the words a, b, c, d of a header
   pub header-told : (a b c d : ℕ) → a ≡ getD ws 0 0 → b ≡ getD ws 1 0 → c ≡ getD ws 2 0 → d ≡ getD ws 3 0 → (r : Bool)
       → r ≡ isOn t a b && (isOn t c d && isAtPlace seats i p b c d) → r ≡ rightHeader t ws && rightPlace t i p ws
   header-told a b c d ea eb ec ed r e =
-      e ∙ rw (ea, eb, ec, ed, header-is) (ap (λ (x : Bool). isOn t (getD ws 0 0) (getD ws 1 0) && (isOn t (getD ws 2 0) (getD ws 3 0) && x)) place-is
+      e ∙ rw (ea, eb, ec, ed, header-is t ws) (ap (λ (x : Bool). isOn t (getD ws 0 0) (getD ws 1 0) && (isOn t (getD ws 2 0) (getD ws 3 0) && x)) place-is
       ∙ sym (and-assoc (isOn t (getD ws 0 0) (getD ws 1 0)) (isOn t (getD ws 2 0) (getD ws 3 0)) (rightPlace t i p ws)))
 
 -- ---- the header of a letter whose length is right, by its words as they were read
@@ -110,17 +108,6 @@ module _ (s : Settings) (l t seats : List ℕ) (i p : ℕ) (g : Placing s l t se
   header-read source from task to e₀ e₁ e₂ e₃ r e =
       let h : (k : ℕ) → k < 5 → word s l b k ≡ getD ws k 0 = head-word s l b readable in
       header-told s l t seats i p g ws source from task to (e₀ ∙ h 0 (omega arith)) (e₁ ∙ h 1 (omega arith)) (e₂ ∙ h 2 (omega arith)) (e₃ ∙ h 3 (omega arith)) r e
-
-  -- the first block carries them
-  module _ (wide : 5 < s .b) where
-    pub header-near : (at : ℕ) → at ≡ blockAt s b → (r : Bool)
-        → r ≡ isOn t (getD l at 0) (getD l (at + 1) 0) && (isOn t (getD l (at + 2) 0) (getD l (at + 3) 0) && isAtPlace seats i p (getD l (at + 1) 0) (getD l (at + 2) 0) (getD l (at + 3) 0))
-        → r ≡ rightHeader t ws && rightPlace t i p ws
-    header-near at q r e =
-        let n : (k : ℕ) → k < 5 → getD l (at + k) 0 ≡ word s l b k = λ k h. near-is s l k b (word-lies s l b readable k h) (omega arith) at q in
-        let z : at ≡ at + 0 = omega arith in
-        header-read (getD l at 0) (getD l (at + 1) 0) (getD l (at + 2) 0) (getD l (at + 3) 0)
-        (ap (λ (j : ℕ). getD l j 0) z ∙ n 0 (omega arith)) (n 1 (omega arith)) (n 2 (omega arith)) (n 3 (omega arith)) r e
 
 -- ---- letters joined
 module _ (s : Settings) (l t : List ℕ) (i p : ℕ) where

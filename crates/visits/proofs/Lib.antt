@@ -1,4 +1,3 @@
 pub mod Walks
 pub mod Read
 pub mod Judge
-pub mod Turns

@@ -69,7 +69,7 @@ pub enum Went {
 }
 
 // One block of a walk with `owed` blocks left.
-fn go_on(
+pub fn go_on(
     node: &[u32],
     before: usize,
     width: usize,
@@ -98,7 +98,7 @@ fn go_on(
 // The walk from block b on, `owed` blocks at most, each link followed leaving one fewer owed: one more than how many of
 // them were not there, or 0 for a bad chain. It takes numbers and answers a number, and goes four blocks before it calls
 // itself, so that a block costs little and the stack stays low.
-fn follow(
+pub fn follow(
     node: &[u32],
     before: usize,
     width: usize,
@@ -163,7 +163,7 @@ pub fn visit(node: &[u32], s: Settings, marks: &mut [u8], b: u32, owed: usize) -
 }
 
 // Whether n is a valid length of a letter that has `count` blocks, and needs them: the words that they carry are compared with it, without a division.
-fn fits_length(s: Settings, count: usize, n: usize) -> bool
+pub fn fits_length(s: Settings, count: usize, n: usize) -> bool
     requires { ⌜ InRange s ⌝ }
     requires { ⌜ count ≤ 1024 ⌝ }
     ensures { λ r. ⌜ r ≡ fitsLength s count n ⌝ }
@@ -284,8 +284,8 @@ fn is_right_header(
 }
 
 // Whether the letter that block b begins at place p of node i is right and none of its blocks has a mark;
-// marks them. Block 0 is a gap and begins none. A block of six words or more carries the header's.
-fn is_right_letter(
+// marks them. Block 0 is a gap and begins none.
+pub fn is_right_letter(
     node: &[u32],
     s: Settings,
     table: &[u32],
@@ -305,52 +305,8 @@ fn is_right_letter(
     let Walk::Ended(left) = visit(node, s, marks, b, s.m) else {
         return false;
     };
-    let count = s.m - left;
-    if 5 < s.b {
-        let at = layout::block_at(s, b as usize);
-        let length = node[at + 4] as usize;
-        if !fits_length(s, count, length) {
-            return false;
-        }
-        return is_right_head(
-            table,
-            seats,
-            i,
-            p,
-            node[at],
-            node[at + 1],
-            node[at + 2],
-            node[at + 3],
-        );
-    }
-    if !is_right_length(node, s, b, count) {
+    if !is_right_length(node, s, b, s.m - left) {
         return false;
     }
     is_right_header(node, s, table, seats, i, p, b)
-}
-
-// The same of each item of a row.
-pub fn are_right_letters(
-    items: &[u32],
-    node: &[u32],
-    s: Settings,
-    table: &[u32],
-    seats: &[u32],
-    marks: &mut [u8],
-    i: usize,
-    p: usize,
-) -> bool
-    requires { ⌜ Placing s (now node) (now table) (now seats) i p ⌝ }
-    requires { ⌜ s .m < length (now marks) ⌝ }
-    ensures { λ r. ⌜ Judged (lettersRight s (now (node .entry)) (now (table .entry)) i p (now (marks .entry)) (live (now (items .entry)))) (marked (now (marks .entry)) (chains s (now (node .entry)) (live (now (items .entry))))) r (now (marks .exit)) ⌝ }
-{
-    let mut j: usize = 0;
-    while j < items.len() {
-        let b = items[j];
-        if !is_right_letter(node, s, table, seats, marks, i, p, b) {
-            return false;
-        }
-        j += 1;
-    }
-    true
 }

@@ -4,3 +4,4 @@ pub mod Parts
 pub mod Rows
 pub mod Count
 pub mod Over
+pub mod Bits

@@ -46,18 +46,34 @@ returns-3 c =
     places-all (x .s) (x .memory .now) (x .i) (x .marks .now) _ _ (join-bad (x .s) (x .memory .now) (x .i) 0 13 64 (x .marks .now) _ _ b (not-true _ (c .if3 .taken)) _)
 
 are-right-tasks-requires : tie.Need-are-right-tasks-requires
-are-right-tasks-requires c κs = let y = c .before .before .before .before .before .before .before .before .before .before .before .before .before .before .before .before .before .before .before .before .before in let x = y .args in (y .pre .0, omega (arith, y .pre .1, c .before .before .before .before .are-right-acks .kept .1 .1 .1 .1 .1 .0, c .before .before .before .before .before .before .before .before .before .are-right-sends .kept .1 .1 .1 .1 .1 .0, c .before .before .before .before .before .before .before .before .before .before .before .before .before .before .is-right-hand .kept .1 .1 .1 .1 .1 .0))
+are-right-tasks-requires c κs = let y = c .before .before .before .before .before .before .before .before .before .before .before .before .before .before .before .before .before .before .before .before .before in let x = y .args in (y .pre .0, (omega (arith, y .pre .1, c .before .before .before .before .are-right-acks .kept .1 .1 .1 .1 .1 .0, c .before .before .before .before .before .before .before .before .before .are-right-sends .kept .1 .1 .1 .1 .1 .0, c .before .before .before .before .before .before .before .before .before .before .before .before .before .before .is-right-hand .kept .1 .1 .1 .1 .1 .0), omega arith))
 
 same-length-4 : tie.Need-same-length-4
 same-length-4 c = search needs
 
 returns-4 : tie.Need-returns-4
 returns-4 c =
-    let y = c .before .before .before .before .before .before .before .before .before .before .before .before .before .before .before .before .before .before .before .before .before .before .before .before in let x = y .args in
-    let h = hand-range (x .s) (x .memory .now) (x .node .now) (x .table .now) (x .seats .now) (x .i) (y .pre .0) (x .marks .now) _ _ (c .before .before .before .before .before .before .before .before .before .before .before .before .before .before .before .before .before .is-right-hand .ensures) in
-    let a = join-next (x .s) (x .memory .now) (x .i) 0 1 6 (x .marks .now) _ _ h (not-false _ (c .before .before .before .before .before .before .before .before .before .before .before .before .before .before .if1 .left)) _ _ (c .before .before .before .before .before .before .before .before .before .before .before .before .are-right-sends .ensures) in
-    let b = join-next (x .s) (x .memory .now) (x .i) 0 7 6 (x .marks .now) _ _ a (not-false _ (c .before .before .before .before .before .before .before .before .before .if2 .left)) _ _ (c .before .before .before .before .before .before .before .are-right-acks .ensures) in
-    places-all (x .s) (x .memory .now) (x .i) (x .marks .now) _ _ (join-next (x .s) (x .memory .now) (x .i) 0 13 64 (x .marks .now) _ _ b (not-false _ (c .before .before .before .before .if3 .left)) _ _ (c .before .before .are-right-tasks .ensures))
+    let y = c .before .before .before .before .before .before .before .before .before .before .before .before .before .before .before .before .before .before .before .before .before .before .before .before .before in let x = y .args in
+    let h = hand-range (x .s) (x .memory .now) (x .node .now) (x .table .now) (x .seats .now) (x .i) (y .pre .0) (x .marks .now) _ _ (c .before .before .before .before .before .before .before .before .before .before .before .before .before .before .before .before .before .before .is-right-hand .ensures) in
+    let a = join-next (x .s) (x .memory .now) (x .i) 0 1 6 (x .marks .now) _ _ h (not-false _ (c .before .before .before .before .before .before .before .before .before .before .before .before .before .before .before .if1 .left)) _ _ (c .before .before .before .before .before .before .before .before .before .before .before .before .before .are-right-sends .ensures) in
+    let b = join-next (x .s) (x .memory .now) (x .i) 0 7 6 (x .marks .now) _ _ a (not-false _ (c .before .before .before .before .before .before .before .before .before .before .if2 .left)) _ _ (c .before .before .before .before .before .before .before .before .are-right-acks .ensures) in
+    let d = join-next (x .s) (x .memory .now) (x .i) 0 13 32 (x .marks .now) _ _ b (not-false _ (c .before .before .before .before .before .if3 .left)) _ _ (c .before .before .before .are-right-tasks .ensures) in
+    places-all (x .s) (x .memory .now) (x .i) (x .marks .now) _ _ (join-bad (x .s) (x .memory .now) (x .i) 0 45 32 (x .marks .now) _ _ d (not-true _ (c .if4 .taken)) _)
+
+are-right-tasks-requires-2 : tie.Need-are-right-tasks-requires-2
+are-right-tasks-requires-2 c κs = let y = c .before .before .before .before .before .before .before .before .before .before .before .before .before .before .before .before .before .before .before .before .before .before .before .before .before .before in let x = y .args in (y .pre .0, (omega (arith, y .pre .1, c .before .before .before .before .are-right-tasks .kept .1 .1 .1 .1 .1 .0, c .before .before .before .before .before .before .before .before .before .are-right-acks .kept .1 .1 .1 .1 .1 .0, c .before .before .before .before .before .before .before .before .before .before .before .before .before .before .are-right-sends .kept .1 .1 .1 .1 .1 .0, c .before .before .before .before .before .before .before .before .before .before .before .before .before .before .before .before .before .before .before .is-right-hand .kept .1 .1 .1 .1 .1 .0), omega arith))
+
+same-length-5 : tie.Need-same-length-5
+same-length-5 c = search needs
+
+returns-5 : tie.Need-returns-5
+returns-5 c =
+    let y = c .before .before .before .before .before .before .before .before .before .before .before .before .before .before .before .before .before .before .before .before .before .before .before .before .before .before .before .before .before in let x = y .args in
+    let h = hand-range (x .s) (x .memory .now) (x .node .now) (x .table .now) (x .seats .now) (x .i) (y .pre .0) (x .marks .now) _ _ (c .before .before .before .before .before .before .before .before .before .before .before .before .before .before .before .before .before .before .before .before .before .before .is-right-hand .ensures) in
+    let a = join-next (x .s) (x .memory .now) (x .i) 0 1 6 (x .marks .now) _ _ h (not-false _ (c .before .before .before .before .before .before .before .before .before .before .before .before .before .before .before .before .before .before .before .if1 .left)) _ _ (c .before .before .before .before .before .before .before .before .before .before .before .before .before .before .before .before .before .are-right-sends .ensures) in
+    let b = join-next (x .s) (x .memory .now) (x .i) 0 7 6 (x .marks .now) _ _ a (not-false _ (c .before .before .before .before .before .before .before .before .before .before .before .before .before .before .if2 .left)) _ _ (c .before .before .before .before .before .before .before .before .before .before .before .before .are-right-acks .ensures) in
+    let d = join-next (x .s) (x .memory .now) (x .i) 0 13 32 (x .marks .now) _ _ b (not-false _ (c .before .before .before .before .before .before .before .before .before .if3 .left)) _ _ (c .before .before .before .before .before .before .before .are-right-tasks .ensures) in
+    places-all (x .s) (x .memory .now) (x .i) (x .marks .now) _ _ (join-next (x .s) (x .memory .now) (x .i) 0 45 32 (x .marks .now) _ _ d (not-false _ (c .before .before .before .before .if4 .left)) _ _ (c .before .before .are-right-tasks2 .ensures))
 
 pub are-right-places-spec : {M : Type 1} → statement M
 are-right-places-spec =
@@ -74,4 +90,7 @@ are-right-places-spec =
     returns-3
     are-right-tasks-requires
     same-length-4
-    returns-4)
+    returns-4
+    are-right-tasks-requires-2
+    same-length-5
+    returns-5)

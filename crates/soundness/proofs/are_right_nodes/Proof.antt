@@ -1,5 +1,5 @@
 -- `soundness::are_right_nodes` meets its contract. Assumes nothing.
-use Rattle.soundness.specs.Parts.{nodeRight}
+use Rattle.places.specs.Given.{nodeRight}
 use Rattle.sound.proofs.Tests.{every-none, turn-no, turn-more, turn-all}
 use Rattle.words.specs.Words.{every}
 use borrow.Author.Tests.{not-true, not-false}
@@ -24,7 +24,6 @@ is-right-node-requires : tie.Need-is-right-node-requires Inv-loop μ-loop
 is-right-node-requires c κs = search needs
 
 returns : tie.Need-returns Inv-loop μ-loop
-unfolding nodeRight
 returns c = turn-no (nodeRight (c .before .before .before .before .before .before .args .s) (c .before .before .before .before .before .before .args .memory .now)) 6 (c .before .before .before .loop .i) (omega arith) _ (c .before .is-right-node .ensures) (not-true _ (c .if1 .taken))
 
 add-i : tie.Need-add-i Inv-loop μ-loop
@@ -34,7 +33,6 @@ loop-less : tie.Need-loop-less Inv-loop μ-loop
 loop-less c = search needs
 
 loop-again : tie.Need-loop-again Inv-loop μ-loop
-unfolding nodeRight
 loop-again c = (omega arith, turn-more (nodeRight (c .before .before .before .before .before .before .args .s) (c .before .before .before .before .before .before .args .memory .now)) 6 (c .before .before .before .loop .i) (c .before .before .before .loop .inv .1) _ (c .before .is-right-node .ensures) (not-false _ (c .if1 .left)))
 
 returns-2 : tie.Need-returns-2 Inv-loop μ-loop

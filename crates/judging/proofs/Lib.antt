@@ -1,0 +1,5 @@
+pub mod Heads
+pub mod Near
+pub mod Turns
+pub mod Filled
+pub mod Aims

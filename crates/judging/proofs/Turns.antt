@@ -1,0 +1,89 @@
+-- The items of a queue, looked at one after the other: what is left to look at, with which marks, and whether a gap was met. Assumes nothing.
+use mathlib.Core.Path.{_≡_, refl, sym, ap, _∙_}
+use mathlib.Core.Bool.{Bool, true, false, _&&_, cond, false≢true}
+use mathlib.Core.List.{List, [], _∷_, _++_}
+use Prim.Native.Nat.{ℕ, _+_, _≤_, _<_}
+use native.Mathlib.Numerals.{add-one}
+use native.Mathlib.Omega.{arith}
+use lib.Dec.{eqb}
+use lib.ListN.{length, getD, drop, drop-of-length-le}
+use lib.Seq.{drop-cons}
+use borrow.Author.Tests.{eq-eqb, ne-eqb}
+use Rattle.words.proofs.Lists.{same?}
+use Rattle.settings.specs.declared.Settings.{Settings}
+use Rattle.queues.specs.Items.{live, gapFlag}
+use Rattle.queues.proofs.Items.{live-append}
+use Rattle.sound.specs.Blocks.{chains}
+use Rattle.visits.specs.Marks.{marked}
+use Rattle.visits.specs.Letters.{lettersRight, Judged}
+use Rattle.visits.proofs.Judge.{right-none, marks-none, right-append, marks-append, gap-judged}
+use Rattle.judging.specs.Told.{Told}
+
+module _ (s : Settings) (l t : List ℕ) (i p : ℕ) (xs : List ℕ) (old : List ℕ) where
+  -- with the marks and the gap so far, the items from the j-th on decide
+  pub record Turn (marks : List ℕ) (j gap : ℕ) : Type 0 where
+    pub right : lettersRight s l t i p old (live xs) ≡ lettersRight s l t i p marks (live (drop j xs))
+    pub due : marked old (chains s l (live xs)) ≡ marked marks (chains s l (live (drop j xs)))
+    pub flag : gapFlag xs ≡ cond (eqb gap 0) (gapFlag (drop j xs)) 1
+    pub small : gap ≤ 1
+
+  pub turn-start : Turn old 0 0
+  turn-start = record { right = refl; due = refl; flag = refl; small = omega arith }
+
+  module _ (marks : List ℕ) (j gap : ℕ) (w : Turn marks j gap) where
+    -- none left
+    pub turn-end : length xs ≤ j → Told (lettersRight s l t i p old (live xs)) (gapFlag xs) (marked old (chains s l (live xs))) gap marks
+    unfolding live gapFlag
+    turn-end h =
+        let e = drop-of-length-le xs h in
+        let y : lettersRight s l t i p old (live xs) ≡ true = w .right ∙ ap (λ (c : List ℕ). lettersRight s l t i p marks (live c)) e ∙ right-none s l t i p marks in
+        let f : gapFlag xs ≡ cond (eqb gap 0) 0 1 = w .flag ∙ ap (λ (c : List ℕ). cond (eqb gap 0) (gapFlag c) 1) e in
+        let g : cond (eqb gap 0) 0 1 ≡ gap = same? gap 0 (λ z q. rw q (sym z)) (λ z q. rw q (omega (arith, w .small))) in
+        record {
+          is = rw y (sym (f ∙ g));
+          marks = λ z. sym (w .due ∙ ap (λ (c : List ℕ). marked marks (chains s l (live c))) e ∙ marks-none s l t i p marks);
+        }
+
+    module _ (h : j < length xs) (x : ℕ) (at : x ≡ getD xs j 0) where
+      rest : drop j xs ≡ x ∷ drop (j + 1) xs
+      rest = drop-cons xs j 0 h ∙ rw (at, add-one j)
+
+      cut : live (drop j xs) ≡ live (x ∷ []) ++ live (drop (j + 1) xs)
+      cut = ap live rest ∙ live-append (x ∷ []) (drop (j + 1) xs)
+
+      module _ (r : Bool) (new : List ℕ) (v : Judged (lettersRight s l t i p marks (live (x ∷ []))) (marked marks (chains s l (live (x ∷ [])))) r new) where
+        both : lettersRight s l t i p old (live xs)
+            ≡ lettersRight s l t i p marks (live (x ∷ [])) && lettersRight s l t i p (marked marks (chains s l (live (x ∷ [])))) (live (drop (j + 1) xs))
+        both = w .right ∙ ap (lettersRight s l t i p marks) cut ∙ right-append s l t i p marks (live (x ∷ [])) (live (drop (j + 1) xs))
+
+        -- a letter that is not right
+        pub turn-bad : r ≡ false → Told (lettersRight s l t i p old (live xs)) (gapFlag xs) (marked old (chains s l (live xs))) 2 new
+        turn-bad f =
+            let n : lettersRight s l t i p old (live xs) ≡ false = both ∙ rw (sym (v .is) ∙ f) in
+            record { is = rw n; marks = λ z. absurd (false≢true (sym n ∙ z)) }
+
+        -- a letter that is
+        pub turn-letter : (x ≡ 0 → ⊥) → r ≡ true → Turn new (j + 1) gap
+        unfolding gapFlag
+        turn-letter some f =
+            let e = v .marks f in
+            record {
+              right = both ∙ rw (sym (v .is) ∙ f, e);
+              due = w .due ∙ ap (λ (c : List ℕ). marked marks (chains s l c)) cut
+                  ∙ marks-append s l t i p marks (live (x ∷ [])) (live (drop (j + 1) xs)) ∙ rw e;
+              flag = w .flag ∙ ap (λ (c : List ℕ). cond (eqb gap 0) (gapFlag c) 1) rest ∙ rw (ne-eqb x 0 some);
+              small = w .small;
+            }
+
+      -- a gap
+      pub turn-gap : x ≡ 0 → Turn marks (j + 1) 1
+      unfolding gapFlag
+      turn-gap z =
+          let v = gap-judged s l t i p marks x z in
+          record {
+            right = both true marks v ∙ rw (sym (v .is), sym (v .marks refl));
+            due = w .due ∙ ap (λ (c : List ℕ). marked marks (chains s l c)) cut
+                ∙ marks-append s l t i p marks (live (x ∷ [])) (live (drop (j + 1) xs)) ∙ rw (sym (v .marks refl));
+            flag = w .flag ∙ ap (λ (c : List ℕ). cond (eqb gap 0) (gapFlag c) 1) rest ∙ rw (eq-eqb x 0 z) (same? gap 0 (λ y q. rw q) (λ y q. rw q));
+            small = omega arith;
+          }
