@@ -53,7 +53,11 @@ unfolding every
 every-and p q zero = refl
 every-and p q (suc n) = ap (λ (b : Bool). b && (p n && q n)) (every-and p q n) ∙ and-cross (every n p) (every n q) (p n) (q n)
 
--- kept on the way: one more that fails, and one more that holds
+-- ---- a test of all, kept on the way: none yet, one more that fails, and one more that holds
+pub none-yet : (t : ℕ → Bool) → true ≡ every 0 t
+unfolding every
+none-yet t = refl
+
 module _ (t : ℕ → Bool) (k : ℕ) (all : Bool) where
   pub all-no : t k ≡ false → false ≡ every (k + 1) t
   unfolding every

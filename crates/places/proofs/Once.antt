@@ -26,6 +26,7 @@ use Rattle.visits.specs.Letters.{Judged}
 use Rattle.visits.proofs.Walks.{fresh-append, marked-append}
 use Rattle.visits.proofs.Read.{ends-within}
 use Rattle.places.specs.Given.{Lent, Blank, freeRight, queueRight, placesRight, nodeRight, allMarked}
+use Rattle.places.proofs.Links.{visits-met}
 use Rattle.places.proofs.Counts.{Below, marked-count, once-fresh, every-and}
 
 -- ---- the free list
@@ -51,27 +52,7 @@ module _ (s : Settings) (l marks : List ℕ) (r : Walk) (new : List ℕ) (v : Vi
       record { is = sym (same ∙ c); marks = λ f. v .marks c }
 
 -- ---- the blocks that are visited are blocks
-module _ (s : Settings) (l t : List ℕ) (i p : ℕ) where
-  chains-in : (bs : List ℕ) → all (rightLetter s l t i p) bs ≡ true → (x : ℕ) → 1 ≤ occurs x (chains s l bs) → (1 ≤ x) × (x ≤ s .m)
-  unfolding chains rightLetter
-  chains-in [] e x o = absurd (omega arith)
-  chains-in (b ∷ bs) e x o =
-      let h = all-head (rightLetter s l t i p) b bs e in
-      same? (occurs x (chainFrom s l b)) 0
-      (λ q f. chains-in bs (h .1) x (omega (arith, occurs-append x (chainFrom s l b) (chains s l bs))))
-      (λ q f. within-in (s .m) (chainFrom s l b) x (ends-within s l b (and-true (endsWell s l b) _ (h .0) .0)) (omega arith))
-
 module _ (s : Settings) (memory : List ℕ) (i : ℕ) where
-  pub standing-in : (n : ℕ) → every n (λ p. all (rightLetter s (node s memory i) (tableIn memory) i p) (begun s memory i p)) ≡ true
-      → (x : ℕ) → 1 ≤ occurs x (standing s memory i n) → (1 ≤ x) × (x ≤ s .m)
-  unfolding every standing
-  standing-in zero e x o = absurd (omega arith)
-  standing-in (suc n) e x o =
-      let h = and-true (every n (λ p. all (rightLetter s (node s memory i) (tableIn memory) i p) (begun s memory i p))) _ e in
-      same? (occurs x (standing s memory i n)) 0
-      (λ q f. chains-in s (node s memory i) (tableIn memory) i n (begun s memory i n) (h .1) x (omega (arith, occurs-append x (standing s memory i n) (chains s (node s memory i) (begun s memory i n)))))
-      (λ q f. standing-in n (h .0) x (omega arith))
-
   abbrev free : List ℕ
   free = chainFrom s (node s memory i) (getD (node s memory i) firstFreeAt 0)
 
@@ -80,11 +61,9 @@ module _ (s : Settings) (memory : List ℕ) (i : ℕ) where
 
   module _ (zeroes : List ℕ) (blank : Blank zeroes) (small : s .m ≤ 1024) (ends : endsWell s (node s memory i) (getD (node s memory i) firstFreeAt 0) ≡ true) (right : rightLetters s memory i ≡ true) where
     visits-in : (x : ℕ) → 1 ≤ occurs x (visits s memory i) → (1 ≤ x) × (x ≤ s .m)
-    unfolding visits rightLetters
-    visits-in x o =
-        same? (occurs x free) 0
-        (λ q f. standing-in 77 right x (omega (arith, occurs-append x free (standing s memory i 77))))
-        (λ q f. within-in (s .m) free x (ends-within s (node s memory i) (getD (node s memory i) firstFreeAt 0) ends) (omega arith))
+    visits-in =
+        visits-met s memory i (λ x. (1 ≤ x) × (x ≤ s .m))
+        (λ b e x o. within-in (s .m) (chainFrom s (node s memory i) b) x (ends-within s (node s memory i) b e) o) ends right
 
     below : Below (length zeroes) (visits s memory i)
     below x o = let k = visits-in x o in let z = blank .long in omega arith

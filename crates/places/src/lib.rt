@@ -21,6 +21,7 @@ ghost use Rattle.places.specs.Given.{
   rangeRight,
   placesRight,
   nodeRight,
+  linksLow,
   allMarked,
 };
 
@@ -250,6 +251,24 @@ fn are_all_marked(marks: &[u8], m: usize) -> bool
     all
 }
 
+// Whether each link is that of a block, or 0. The links are looked at as they stand, before the walks want them in any order: so they are
+// near when they are wanted.
+fn are_links_low(node: &[u32], s: Settings) -> bool
+    requires { ⌜ Stretch s (now node) ⌝ }
+    ensures { λ r. ⌜ r ≡ linksLow s (now (node .entry)) ⌝ }
+{
+    let mut low = true;
+    let mut b: usize = 0;
+    while b < s.m {
+        let at = layout::link_at(s, b + 1);
+        if s.m < node[at] as usize {
+            low = false;
+        }
+        b += 1;
+    }
+    low
+}
+
 // The third, the fifth and the sixth rule over the places of node i, with no block marked yet.
 fn is_right_marked(
     memory: &[u32],
@@ -264,6 +283,9 @@ fn is_right_marked(
     requires { ⌜ Blank (now marks) ⌝ }
     ensures { λ r. ⌜ r ≡ nodeRight s (now (memory .entry)) i ⌝ }
 {
+    if !are_links_low(node, s) {
+        return false;
+    }
     if !is_right_free(node, s, marks) {
         return false;
     }

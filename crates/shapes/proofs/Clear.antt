@@ -1,5 +1,5 @@
 -- The slots outside the items, as they stand in the stretch: two runs of words, or one where the items run round. Assumes nothing.
-use mathlib.Core.Path.{_≡_, sym, ap, _∙_}
+use mathlib.Core.Path.{_≡_, refl, sym, ap, ap₂, _∙_}
 use mathlib.Core.Bool.{Bool, true, false, _&&_, _||_}
 use mathlib.Core.List.{List}
 use Prim.Native.Nat.{ℕ, suc, _+_, _-_, _%_, _≤_, _<_}
@@ -49,6 +49,39 @@ module _ (l : List ℕ) (a e : ℕ) where
   pub zero-all-told : (i bits : ℕ) → i ≡ e → eqb bits 0 ≡ every (i - a) (λ i. eqb (getD l (a + i) 0) 0) → eqb bits 0 ≡ zeroes l a e
   unfolding zeroes
   zero-all-told i bits q h = rw q at h
+
+-- ---- few words: the first of them and the last of them
+module _ (l : List ℕ) where
+  -- two rows of words that reach over each other
+  over : (a d c e : ℕ) → a ≤ d → d ≤ c → c ≤ e → zeroes l a e ≡ zeroes l a c && zeroes l d e
+  over a d c e x y z =
+      same-test (zeroes l a e) (zeroes l a c && zeroes l d e)
+      (λ h. and-join (zeroes l a c) (zeroes l d e)
+      (zero-all l a c (λ p u v. zero-at l a e h p u (omega arith)))
+      (zero-all l d e (λ p u v. zero-at l a e h p (omega arith) v)))
+      (λ h. let w = and-true (zeroes l a c) (zeroes l d e) h in
+      zero-all l a e (λ p u v. ⊎-elim (λ k. zero-at l d e (w .1) p (omega arith) v) (λ k. zero-at l a c (w .0) p u k) (le-or-lt c p)))
+
+  pub few-none : (a e : ℕ) → e ≡ a → true ≡ zeroes l a e
+  few-none a e h = sym (zero-all l a e (λ p u v. absurd (omega arith)))
+
+  pub few-one : (a e : ℕ) → e ≡ a + 1 → eqb (getD l a 0) 0 ≡ zeroes l a e
+  few-one a e h =
+      same-test (eqb (getD l a 0) 0) (zeroes l a e)
+      (λ y. zero-all l a e (λ p u v. let q : p ≡ a = omega arith in rw q (eqb-true (getD l a 0) 0 y)))
+      (λ y. eq-eqb (getD l a 0) 0 (zero-at l a e y a (omega arith) (omega arith)))
+
+  pub few-two : (a : ℕ) → eqb (bitOr (getD l a 0) (getD l (a + 1) 0)) 0 ≡ zeroes l a (a + 2)
+  few-two a =
+      or-zero (getD l a 0) (getD l (a + 1) 0)
+      ∙ ap₂ _&&_ (few-one a (a + 1) refl) (few-one (a + 1) (a + 2) (omega arith))
+      ∙ sym (over a (a + 1) (a + 1) (a + 2) (omega arith) (omega arith) (omega arith))
+
+  -- what was joined of the first n words and of the last n
+  pub few-ends : (a e n x y : ℕ) → a + n ≤ e → e ≤ a + (n + n) → eqb x 0 ≡ zeroes l a (a + n) → eqb y 0 ≡ zeroes l (e - n) (e - n + n) → eqb (bitOr x y) 0 ≡ zeroes l a e
+  few-ends a e n x y h k u v =
+      let d : e - n + n ≡ e = omega arith in
+      or-zero x y ∙ ap₂ _&&_ u (v ∙ ap (zeroes l (e - n)) d) ∙ sym (over a (e - n) (a + n) e (omega arith) (omega arith) (omega arith))
 
 -- ---- a queue's slots
 module _ (k : Kind) (l : List ℕ) (q : ℕ) where

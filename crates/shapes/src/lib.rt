@@ -1,15 +1,51 @@
 // The shape of a queue: where it starts, how many items it has, and the slots outside them.
 use queues::Kind;
 ghost use mathlib.Core.Path.{_≡_};
-ghost use Prim.Native.Nat.{_<_, _≤_};
+ghost use Prim.Native.Nat.{_+_, _<_, _≤_};
 ghost use lib.Dec.{eqb};
 ghost use lib.ListN.{length};
 ghost use Rattle.queues.specs.Queue.{Placed, start, items};
 ghost use Rattle.sound.specs.Queues.{inShape};
 ghost use Rattle.shapes.specs.Shape.{zeroes, clearOutside};
 
-// Whether the words from a on, before e, are 0. All are joined and then looked at, so that the compiler may take many at a time.
-fn are_zero(node: &[u32], a: usize, e: usize) -> bool
+// Two words, joined.
+fn bits_of_two(node: &[u32], a: usize) -> u32
+    requires { ⌜ a + 2 ≤ length (now node) ⌝ }
+    ensures { λ r. ⌜ eqb r 0 ≡ zeroes (now (node .entry)) a (a + 2) ⌝ }
+{
+    node[a] | node[a + 1]
+}
+
+// Four words, joined.
+fn bits_of_four(node: &[u32], a: usize) -> u32
+    requires { ⌜ a + 4 ≤ length (now node) ⌝ }
+    ensures { λ r. ⌜ eqb r 0 ≡ zeroes (now (node .entry)) a (a + 4) ⌝ }
+{
+    bits_of_two(node, a) | bits_of_two(node, a + 2)
+}
+
+// Whether the words from a on, before e, are 0, fewer than eight: the first and the last two or four are joined, with no loop.
+fn are_few_zero(node: &[u32], a: usize, e: usize) -> bool
+    requires { ⌜ (a ≤ e) × (e ≤ length (now node)) × (e ≤ a + 8) ⌝ }
+    ensures { λ r. ⌜ r ≡ zeroes (now (node .entry)) a e ⌝ }
+{
+    let n = e - a;
+    if n < 2 {
+        if n == 0 {
+            return true;
+        }
+        return node[a] == 0;
+    }
+    if n < 5 {
+        let bits = bits_of_two(node, a) | bits_of_two(node, e - 2);
+        return bits == 0;
+    }
+    let bits = bits_of_four(node, a) | bits_of_four(node, e - 4);
+    bits == 0
+}
+
+// The same of any number of words. All are joined and then looked at, so that the compiler may take many at a time.
+fn are_many_zero(node: &[u32], a: usize, e: usize) -> bool
     requires { ⌜ (a ≤ e) × (e ≤ length (now node)) ⌝ }
     ensures { λ r. ⌜ r ≡ zeroes (now (node .entry)) a e ⌝ }
 {
@@ -20,6 +56,17 @@ fn are_zero(node: &[u32], a: usize, e: usize) -> bool
         i += 1;
     }
     bits == 0
+}
+
+// Whether the words from a on, before e, are 0.
+fn are_zero(node: &[u32], a: usize, e: usize) -> bool
+    requires { ⌜ (a ≤ e) × (e ≤ length (now node)) ⌝ }
+    ensures { λ r. ⌜ r ≡ zeroes (now (node .entry)) a e ⌝ }
+{
+    if e - a < 8 {
+        return are_few_zero(node, a, e);
+    }
+    are_many_zero(node, a, e)
 }
 
 // Whether the slots outside the items are 0, as they stand: behind the last item and before the first, or between them where the items run round.

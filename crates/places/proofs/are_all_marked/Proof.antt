@@ -1,8 +1,8 @@
 -- `places::are_all_marked` meets its contract. Assumes nothing.
-use mathlib.Core.Path.{_≡_, refl, _∙_}
-use mathlib.Core.Bool.{Bool, true, false}
+use mathlib.Core.Path.{_≡_, _∙_}
+use mathlib.Core.Bool.{false}
 use mathlib.Core.Logic.{⊎-elim}
-use Prim.Native.Nat.{ℕ, suc, _≤_, _-_}
+use Prim.Native.Nat.{suc, _≤_, _-_}
 use native.Mathlib.Numerals.{add-one}
 use native.Mathlib.Omega.{arith}
 use lib.Dec.{eqb}
@@ -11,13 +11,9 @@ use borrow.Author.Needs.{needs}
 use borrow.Author.Tests.{eq-eqb, ne-eqb}
 use Rattle.words.specs.Words.{every}
 use Rattle.places.specs.Given.{allMarked}
-use Rattle.places.proofs.Counts.{all-no, all-more}
+use Rattle.places.proofs.Counts.{none-yet, all-no, all-more}
 use Rattle.places.proofs.are_all_marked.Statement.{statement}
 use Rattle.places.proofs.are_all_marked.Tie as tie
-
-none : (t : ℕ → Bool) → true ≡ every 0 t
-unfolding every
-none t = refl
 
 abbrev Inv-loop : tie.InvT-loop
 Inv-loop marks m all₀ b₀ all b = (b ≤ m) × (all ≡ every b (λ b. eqb (getD marks (suc b) 0) 1))
@@ -26,7 +22,7 @@ abbrev μ-loop : tie.MeasureT-loop
 μ-loop marks m all₀ b₀ all b = m - b
 
 loop-holds : tie.Need-loop-holds Inv-loop μ-loop
-loop-holds c = (omega arith, none _)
+loop-holds c = (omega arith, none-yet _)
 
 add-if1 : tie.Need-add-if1 Inv-loop μ-loop
 add-if1 c = search needs

@@ -1,4 +1,4 @@
--- `shapes::are_zero` meets its contract. Assumes nothing.
+-- `shapes::are_many_zero` meets its contract. Assumes nothing.
 use mathlib.Core.Path.{_≡_}
 use Prim.Native.Nat.{_+_, _-_, _≤_}
 use native.Mathlib.Omega.{arith}
@@ -7,8 +7,8 @@ use lib.Dec.{eqb}
 use lib.ListN.{getD}
 use Rattle.words.specs.Words.{every}
 use Rattle.shapes.proofs.Clear.{zero-none, zero-more, zero-all-told}
-use Rattle.shapes.proofs.are_zero.Statement.{statement}
-use Rattle.shapes.proofs.are_zero.Tie as tie
+use Rattle.shapes.proofs.are_many_zero.Statement.{statement}
+use Rattle.shapes.proofs.are_many_zero.Tie as tie
 
 abbrev Inv-loop : tie.InvT-loop
 Inv-loop node a e bits₀ i₀ bits i = (a ≤ i) × (i ≤ e) × (eqb bits 0 ≡ every (i - a) (λ j. eqb (getD node (a + j) 0) 0))
@@ -37,8 +37,8 @@ loop-again c = let x = c .before .before .before .args in let t = c .before .bef
 returns : tie.Need-returns Inv-loop μ-loop
 returns c = let x = c .before .before .args in let t = c .before .loop in zero-all-told (x .node .now) (x .a) (x .e) (t .i) (t .bits) (omega arith) (t .inv .2)
 
-pub are-zero-spec : {M : Type 1} → statement M
-are-zero-spec =
+pub are-many-zero-spec : {M : Type 1} → statement M
+are-many-zero-spec =
     tie.close
     (tie.spec
     Inv-loop
