@@ -1,6 +1,6 @@
 -- What the number that is told of a queue with items decides. Assumes nothing.
 use mathlib.Core.Path.{_≡_, refl, sym, ap, _∙_}
-use mathlib.Core.Bool.{Bool, true, false, _&&_, cond, false≢true}
+use mathlib.Core.Bool.{Bool, true, false, _&&_, false≢true}
 use mathlib.Core.List.{List, [], _∷_}
 use Prim.Native.Nat.{ℕ, _+_, _-_, _≤_}
 use native.Mathlib.Omega.{arith}
@@ -16,12 +16,12 @@ use Rattle.blocks.proofs.Steps.{list-step}
 use Rattle.queues.specs.declared.Kind.{Kind}
 use Rattle.queues.specs.Queue.{itemAt, items, contents, Placed, Queue}
 use Rattle.queues.specs.Items.{live, gapFlag}
-use Rattle.queues.proofs.Items.{live-cons, gap-small}
+use Rattle.queues.proofs.Items.{gap-small}
 use Rattle.sound.specs.Queues.{inShape}
 use Rattle.sound.specs.Letters.{endsWell, wordsFrom, rightLength, rightHeader, rightPlace, rightLetter}
 use Rattle.sound.specs.Blocks.{chains}
 use Rattle.sound.proofs.Shapes.{shape-queue}
-use Rattle.sound.proofs.Tests.{and-yes, no-first, no-second}
+use Rattle.sound.proofs.Tests.{and-yes, no-first}
 use Rattle.shapes.specs.Shape.{itemsWithin, rightPost, rightSeat}
 use Rattle.shapes.proofs.Steps.{seat-unbound, seat-gap, seat-flag}
 use Rattle.visits.specs.Marks.{marked}

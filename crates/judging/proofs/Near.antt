@@ -7,10 +7,9 @@ use native.Mathlib.Omega.{arith}
 use lib.ListN.{getD}
 use Rattle.settings.specs.declared.Settings.{Settings}
 use Rattle.layout.specs.Places.{blockAt}
-use Rattle.letters.specs.Letter.{word}
 use Rattle.letters.proofs.Steps.{near-is}
 use Rattle.queues.specs.Items.{live}
-use Rattle.sound.specs.Letters.{wordsFrom, rightLength, rightHeader, rightPlace}
+use Rattle.sound.specs.Letters.{wordsFrom, rightLength, rightPlace}
 use Rattle.sound.specs.Blocks.{chains}
 use Rattle.sound.proofs.Tests.{and-assoc}
 use Rattle.visits.specs.declared.Walk.the-variants.{Ended, Bad}

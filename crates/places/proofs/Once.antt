@@ -1,8 +1,8 @@
 -- The free list and the places of a node together: what the queues and the marks decide is the third, the fifth and the sixth rule. Assumes nothing.
 use mathlib.Core.Path.{_≡_, refl, sym, ap, ap₂, _∙_}
 use mathlib.Core.Bool.{Bool, true, false, _&&_, false≢true}
-use mathlib.Core.List.{List, [], _∷_}
-use Prim.Native.Nat.{ℕ, zero, suc, _-_, _≤_}
+use mathlib.Core.List.{List}
+use Prim.Native.Nat.{ℕ, suc, _-_, _≤_}
 use native.Mathlib.Omega.{arith}
 use lib.Dec.{eqb}
 use lib.ListN.{length, getD, replicate, getD-replicate, List·getD-eq-default}
@@ -10,14 +10,13 @@ use mathlib.Core.Logic.{⊎-elim}
 use borrow.Author.Tests.{eqb-true}
 use Rattle.words.specs.Words.{every, all}
 use Rattle.words.specs.Count.{occurs}
-use Rattle.words.proofs.Lists.{split, same?, and-true, and-false, every-at, all-head, le-or-lt, told-no, told-yes}
-use Rattle.words.proofs.Count.{occurs-append}
+use Rattle.words.proofs.Lists.{split, same?, and-false, every-at, le-or-lt, told-no, told-yes}
 use Rattle.settings.specs.declared.Settings.{Settings}
 use Rattle.layout.specs.Places.{firstFreeAt, node}
 use Rattle.blocks.proofs.Rows.{within-in}
 use Rattle.sound.specs.Reading.{tableIn}
 use Rattle.sound.specs.Letters.{chainFrom, endsWell, rightLetter}
-use Rattle.sound.specs.Blocks.{chains, begun, standing, visits, eachOnce, rightLetters}
+use Rattle.sound.specs.Blocks.{begun, standing, visits, eachOnce, rightLetters}
 use Rattle.sound.proofs.Tests.{and-assoc, and-yes, every-same}
 use Rattle.visits.specs.declared.Walk.{Walk}
 use Rattle.visits.specs.declared.Walk.the-variants.{Ended, Bad}

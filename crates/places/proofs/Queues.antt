@@ -3,6 +3,7 @@ use mathlib.Core.Path.{_≡_, refl, sym, ap, _∙_}
 use mathlib.Core.Bool.{Bool, true, false, _&&_, false≢true}
 use mathlib.Core.List.{List, []}
 use Prim.Native.Nat.{ℕ, _+_, _≤_, _<_}
+use native.Mathlib.Nat.{add-mul}
 use native.Mathlib.Omega.{arith}
 use lib.Dec.{eqb}
 use lib.ListN.{getD}
@@ -49,6 +50,13 @@ module _ (s : Settings) (memory l t : List ℕ) (i p : ℕ) (k : Kind) (queue : 
       (λ n.
       let f : r ≡ false = v .is ∙ rw (e, n) in
       record { is = rw n f; marks = λ w. absurd (false≢true (sym f ∙ w)) })
+
+-- the next task queue stands right behind
+pub task-next : (s : Settings) (a k q : ℕ) → q ≡ taskAt s (a + k) → q + (5 + s .t) ≡ taskAt s (a + (k + 1))
+unfolding taskAt
+task-next s a k q e =
+    let d : a + (k + 1) ≡ a + k + 1 = omega arith in
+    rw (e, d) (omega (arith, add-mul (a + k) 1 (5 + s .t)))
 
 -- ---- a send or acknowledge queue
 module _ (s : Settings) (memory : List ℕ) (i p : ℕ) (k : Kind) (queue : List ℕ) (q : ℕ) (own : Bool) (rule : rightPost k queue q (s .m) own ≡ queueRight s memory i p) where

@@ -161,9 +161,9 @@ fn are_right_tasks(
     ensures { λ r. ⌜ Judged (rangeRight s (now (memory .entry)) i (13 + first) 32 (now (marks .entry))) (marked (now (marks .entry)) (standingFrom s (now (memory .entry)) i (13 + first) 32)) r (now (marks .exit)) ⌝ }
 {
     let kind = queues::task_kind(s);
+    let mut q = layout::task_at(s, first);
     let mut k: usize = 0;
     while k < 32 {
-        let q = layout::task_at(s, first + k);
         if shapes::is_empty(node, kind, q) {
             if node[q + 2] != 0 {
                 return false;
@@ -188,6 +188,7 @@ fn are_right_tasks(
                 return false;
             }
         }
+        q += 5 + s.t;
         k += 1;
     }
     true

@@ -6,4 +6,3 @@ pub mod Items
 pub mod Tasks
 pub mod Views
 pub mod Placing
-pub mod Stands

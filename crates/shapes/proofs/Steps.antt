@@ -1,23 +1,21 @@
 -- What each test of a queue decides. Assumes nothing.
 use mathlib.Core.Path.{_≡_, refl, sym, ap, _∙_}
 use mathlib.Core.Bool.{Bool, true, false, _&&_, _||_, not}
-use mathlib.Core.List.{List, _++_}
+use mathlib.Core.List.{List}
 use Prim.Native.Nat.{ℕ, suc, _+_, _-_, _≤_, _<_}
-use native.Mathlib.Numerals.{add-one}
 use native.Mathlib.Omega.{arith}
-use lib.Dec.{eqb, leb, ltb, leb·zero}
-use lib.ListN.{length, getD, drop, drop-of-length-le}
-use lib.Seq.{drop-cons}
-use borrow.Author.Tests.{eq-eqb, ne-eqb, le-leb, lt-leb, le-ltb}
+use lib.Dec.{eqb, leb, ltb}
+use lib.ListN.{length, getD}
+use borrow.Author.Tests.{eq-eqb, ne-eqb, lt-leb, le-ltb}
 use Rattle.words.specs.Words.{all}
-use Rattle.words.proofs.Lists.{split, and-true, and-false}
+use Rattle.words.proofs.Lists.{split, and-false}
 use Rattle.layout.specs.Places.{gapWord}
 use Rattle.queues.specs.declared.Kind.{Kind}
 use Rattle.queues.specs.Queue.{start, items, itemAt, run, contents}
 use Rattle.queues.specs.Items.{gapFlag}
 use Rattle.queues.proofs.Ring.{length-run}
 use Rattle.sound.specs.Queues.{inShape}
-use Rattle.sound.proofs.Tests.{no-second, all-none, all-step, all-same, all-append}
+use Rattle.sound.proofs.Tests.{no-second, all-none}
 use Rattle.shapes.specs.Shape.{itemsWithin, rightPost, rightSeat}
 
 module _ (k : Kind) (l : List ℕ) (q : ℕ) where
@@ -47,10 +45,6 @@ module _ (k : Kind) (l : List ℕ) (q : ℕ) where
       post-own o =
           let n : eqb (length (contents k l q)) 0 ≡ false = ne-eqb (length (contents k l q)) 0 (λ (z : length (contents k l q) ≡ 0). omega (arith, length-run k l q 0 (items k l q))) in
           rw (o, n) (sym (and-false (inShape k l q)))
-
-      pub post-other : own ≡ false → (r : Bool) → r ≡ inShape k l q && itemsWithin 1 m (contents k l q) → r ≡ rightPost k l q m own
-      unfolding rightPost
-      post-other o r f = rw o f
 
 -- ---- a task queue
 module _ (k : Kind) (l : List ℕ) (q m task : ℕ) where

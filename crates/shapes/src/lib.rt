@@ -24,27 +24,7 @@ fn bits_of_four(node: &[u32], a: usize) -> u32
     bits_of_two(node, a) | bits_of_two(node, a + 2)
 }
 
-// Whether the words from a on, before e, are 0, fewer than eight: the first and the last two or four are joined, with no loop.
-fn are_few_zero(node: &[u32], a: usize, e: usize) -> bool
-    requires { ⌜ (a ≤ e) × (e ≤ length (now node)) × (e ≤ a + 8) ⌝ }
-    ensures { λ r. ⌜ r ≡ zeroes (now (node .entry)) a e ⌝ }
-{
-    let n = e - a;
-    if n < 2 {
-        if n == 0 {
-            return true;
-        }
-        return node[a] == 0;
-    }
-    if n < 5 {
-        let bits = bits_of_two(node, a) | bits_of_two(node, e - 2);
-        return bits == 0;
-    }
-    let bits = bits_of_four(node, a) | bits_of_four(node, e - 4);
-    bits == 0
-}
-
-// The same of any number of words. All are joined and then looked at, so that the compiler may take many at a time.
+// Whether the words from a on, before e, are 0. All are joined and then looked at, so that the compiler may take many at a time.
 fn are_many_zero(node: &[u32], a: usize, e: usize) -> bool
     requires { ⌜ (a ≤ e) × (e ≤ length (now node)) ⌝ }
     ensures { λ r. ⌜ r ≡ zeroes (now (node .entry)) a e ⌝ }
@@ -58,15 +38,36 @@ fn are_many_zero(node: &[u32], a: usize, e: usize) -> bool
     bits == 0
 }
 
-// Whether the words from a on, before e, are 0.
+// The same of two words or more. The first and the last two or four of a few are joined, with no loop.
+fn are_some_zero(node: &[u32], a: usize, e: usize) -> bool
+    requires { ⌜ (a + 2 ≤ e) × (e ≤ length (now node)) ⌝ }
+    ensures { λ r. ⌜ r ≡ zeroes (now (node .entry)) a e ⌝ }
+{
+    let n = e - a;
+    if n < 5 {
+        let bits = bits_of_two(node, a) | bits_of_two(node, e - 2);
+        return bits == 0;
+    }
+    if n < 9 {
+        let bits = bits_of_four(node, a) | bits_of_four(node, e - 4);
+        return bits == 0;
+    }
+    are_many_zero(node, a, e)
+}
+
+// The same of any words.
 fn are_zero(node: &[u32], a: usize, e: usize) -> bool
     requires { ⌜ (a ≤ e) × (e ≤ length (now node)) ⌝ }
     ensures { λ r. ⌜ r ≡ zeroes (now (node .entry)) a e ⌝ }
 {
-    if e - a < 8 {
-        return are_few_zero(node, a, e);
+    let n = e - a;
+    if n < 2 {
+        if n == 0 {
+            return true;
+        }
+        return node[a] == 0;
     }
-    are_many_zero(node, a, e)
+    are_some_zero(node, a, e)
 }
 
 // Whether the slots outside the items are 0, as they stand: behind the last item and before the first, or between them where the items run round.
@@ -122,5 +123,5 @@ pub fn is_right_empty(node: &[u32], k: Kind, q: usize) -> bool
         return false;
     }
     let base = q + k.head;
-    are_zero(node, base, base + k.slots)
+    are_some_zero(node, base, base + k.slots)
 }

@@ -71,10 +71,6 @@ module _ (p : ℕ → Bool) where
   unfolding all
   all-none = refl
 
-  pub all-step : (x : ℕ) (l : List ℕ) → all p (x ∷ l) ≡ p x && all p l
-  unfolding all
-  all-step x l = refl
-
   pub all-append : (l m : List ℕ) → all p (l ++ m) ≡ all p l && all p m
   unfolding all
   all-append [] m = refl

@@ -1,3 +1,4 @@
+-- `judging::are_right_items` meets its contract. Assumes nothing.
 use mathlib.Core.Logic.{⊎-elim}
 use Rattle.judging.proofs.Turns.{Turn, turn-start, turn-end, turn-bad, turn-letter, turn-gap}
 use Rattle.queues.proofs.Views.{length-contents, contents-item}
@@ -6,15 +7,10 @@ use borrow.Author.Tests.{not-true, not-false}
 use borrow.Author.Needs.{needs}
 use lib.ListN.{length, getD}
 use native.Mathlib.Omega.{arith}
-use Prim.Native.Nat.{ℕ, _+_, _-_, _≤_, _<_}
+use Prim.Native.Nat.{ℕ, _-_, _≤_, _<_}
 use mathlib.Core.Path.{_≡_, refl, ap, _∙_}
 use Rattle.judging.proofs.are_right_items.Statement.{statement}
 use Rattle.judging.proofs.are_right_items.Tie as tie
-use Rattle.judging.proofs.are_right_items.Reads as reads
-use Rattle.judging.proofs.are_right_items.Lts as lts
-use Rattle.judging.proofs.is_right_near.Reads as is-right-near-reads
-use Rattle.queues.proofs.slot_at.Reads as slot-at-reads
-use Rattle.visits.proofs.is_right_letter.Reads as is-right-letter-reads
 
 abbrev Inv-loop : tie.InvT-loop
 Inv-loop queue kind q node s table seats marks₀ i p post k owner first count gap₀ j₀ marks gap j =
@@ -23,95 +19,72 @@ Inv-loop queue kind q node s table seats marks₀ i p post k owner first count g
 abbrev μ-loop : tie.MeasureT-loop
 μ-loop queue kind q node s table seats marks₀ i p post k owner first count gap₀ j₀ marks gap j = count - j
 
--- src/lib.rt:148:17
 mul-first : tie.Need-mul-first Inv-loop μ-loop
 mul-first c = search needs
 
--- src/lib.rt:148:17
 shared-slice-read-first : tie.Need-shared-slice-read-first Inv-loop μ-loop
 shared-slice-read-first c = search needs
 
--- src/lib.rt:148:17
 cast-first : tie.Need-cast-first Inv-loop μ-loop
 cast-first c = search needs
 
--- src/lib.rt:149:23
 add-count : tie.Need-add-count Inv-loop μ-loop
 add-count c = search needs
 
--- src/lib.rt:149:17
 mul-count : tie.Need-mul-count Inv-loop μ-loop
 mul-count c = search needs
 
--- src/lib.rt:149:17
 shared-slice-read-count : tie.Need-shared-slice-read-count Inv-loop μ-loop
 shared-slice-read-count c = search needs
 
--- src/lib.rt:149:17
 cast-count : tie.Need-cast-count Inv-loop μ-loop
 cast-count c = search needs
 
--- src/lib.rt:152:5
 loop-holds : tie.Need-loop-holds Inv-loop μ-loop
 loop-holds c = let x = c .before .before .before .before .before .before .before .args in (omega arith, refl, turn-start (x .s) (x .node .now) (x .table .now) (x .i) (x .p) (contents (x .kind) (x .queue .now) (x .q)) (x .marks .now))
 
--- src/lib.rt:153:13
 slot-at-requires : tie.Need-slot-at-requires Inv-loop μ-loop
 slot-at-requires c κs = let y = c .before .before .before .before .before .before .before .before .before in record { small = omega (arith, y .pre .0 .placed .lies, y .pre .0 .count); begins = omega (arith, y .pre .0 .begins); place = omega (arith, y .pre .0 .count) }
 
--- src/lib.rt:154:17
 mul-b : tie.Need-mul-b Inv-loop μ-loop
 mul-b c = search needs
 
--- src/lib.rt:154:17
 shared-slice-read-b : tie.Need-shared-slice-read-b Inv-loop μ-loop
 shared-slice-read-b c = omega (arith, c .before .slot-at .ensures .high, c .before .before .before .before .before .before .before .before .before .before .before .pre .0 .placed .lies)
 
--- src/lib.rt:159:58
 cast-is-right-near : tie.Need-cast-is-right-near Inv-loop μ-loop
 cast-is-right-near c = omega (arith, c .before .before .before .before .before .before .before .before .before .before .before .before .before .before .before .pre .1 .0 .node)
 
--- src/lib.rt:159:21
 is-right-near-requires : tie.Need-is-right-near-requires Inv-loop μ-loop
 is-right-near-requires c κs = let y = c .before .before .before .before .before .before .before .before .before .before .before .before .before .before .before in let t = c .before .before .before .before .before .before .before .loop in (record { stretch = y .pre .1 .0 .stretch; wide = c .before .if2 .taken; table = y .pre .1 .0 .table; aim = y .pre .1 .1 .0 }, (omega (arith, y .pre .1 .1 .1, t .inv .1), omega (arith, c .before .before .before .if1 .left)))
 
--- src/lib.rt:160:21
 same-length : tie.Need-same-length Inv-loop μ-loop
 same-length c = c .before .before .before .is-right-near .kept .1 .1 .1 .0 ∙ c .before .before .before .before .before .before .before .before .before .before .before .loop .inv .1
 
--- src/lib.rt:160:21
 returns : tie.Need-returns Inv-loop μ-loop
 returns c = let y = c .before .before .before .before .before .before .before .before .before .before .before .before .before .before .before .before .before .before .before in let x = y .args in let t = c .before .before .before .before .before .before .before .before .before .before .before .loop in turn-bad (x .s) (x .node .now) (x .table .now) (x .i) (x .p) (contents (x .kind) (x .queue .now) (x .q)) (x .marks .now) (t .marks) (t .j) (t .gap) (t .inv .2) (omega (arith, c .before .before .before .before .before .before .before .before .before .before .loop-test .taken, length-contents (x .kind) (x .queue .now) (x .q) (y .pre .0))) _ (ap (λ (a : ℕ). getD (x .queue .now) a 0) (c .before .before .before .before .before .before .before .before .before .slot-at .ensures .is) ∙ contents-item (x .kind) (x .queue .now) (x .q) (y .pre .0) (t .j) (omega (arith, c .before .before .before .before .before .before .before .before .before .before .loop-test .taken, y .pre .0 .count))) _ _ (c .before .before .before .is-right-near .ensures) (not-true _ (c .if3 .taken))
 
--- src/lib.rt:163:21
 is-right-letter-requires : tie.Need-is-right-letter-requires Inv-loop μ-loop
 is-right-letter-requires c κs = let y = c .before .before .before .before .before .before .before .before .before .before .before .before .before .before .before in let t = c .before .before .before .before .before .before .before .loop in (y .pre .1 .0, omega (arith, y .pre .1 .1 .1, t .inv .1))
 
--- src/lib.rt:164:21
 same-length-2 : tie.Need-same-length-2 Inv-loop μ-loop
 same-length-2 c = c .before .before .before .is-right-letter .kept .1 .1 .1 .1 .0 ∙ c .before .before .before .before .before .before .before .before .before .before .before .loop .inv .1
 
--- src/lib.rt:164:21
 returns-2 : tie.Need-returns-2 Inv-loop μ-loop
 returns-2 c = let y = c .before .before .before .before .before .before .before .before .before .before .before .before .before .before .before .before .before .before .before in let x = y .args in let t = c .before .before .before .before .before .before .before .before .before .before .before .loop in turn-bad (x .s) (x .node .now) (x .table .now) (x .i) (x .p) (contents (x .kind) (x .queue .now) (x .q)) (x .marks .now) (t .marks) (t .j) (t .gap) (t .inv .2) (omega (arith, c .before .before .before .before .before .before .before .before .before .before .loop-test .taken, length-contents (x .kind) (x .queue .now) (x .q) (y .pre .0))) _ (ap (λ (a : ℕ). getD (x .queue .now) a 0) (c .before .before .before .before .before .before .before .before .before .slot-at .ensures .is) ∙ contents-item (x .kind) (x .queue .now) (x .q) (y .pre .0) (t .j) (omega (arith, c .before .before .before .before .before .before .before .before .before .before .loop-test .taken, y .pre .0 .count))) _ _ (c .before .before .before .is-right-letter .ensures) (not-true _ (c .if4 .taken))
 
--- src/lib.rt:168:9
 add-j : tie.Need-add-j Inv-loop μ-loop
 add-j c = search needs
 
--- src/lib.rt:152:5
 loop-less : tie.Need-loop-less Inv-loop μ-loop
 loop-less c = search needs
 
--- src/lib.rt:152:5
 loop-again : tie.Need-loop-again Inv-loop μ-loop
 loop-again c = let y = c .before .before .before .before .before .before .before .before .before .before .before .before in let x = y .args in let t = c .before .before .before .before .loop in let h = c .before .before .before .loop-test .taken in let f : t .j < length (contents (x .kind) (x .queue .now) (x .q)) = omega (arith, h, length-contents (x .kind) (x .queue .now) (x .q) (y .pre .0)) in let e = ap (λ (a : ℕ). getD (x .queue .now) a 0) (c .before .before .slot-at .ensures .is) ∙ contents-item (x .kind) (x .queue .now) (x .q) (y .pre .0) (t .j) (omega (arith, h, y .pre .0 .count)) in ⊎-elim (λ w. (omega (arith, h), ap length (w .1) ∙ t .inv .1, rw (w .1, w .2) (turn-gap (x .s) (x .node .now) (x .table .now) (x .i) (x .p) (contents (x .kind) (x .queue .now) (x .q)) (x .marks .now) (t .marks) (t .j) (t .gap) (t .inv .2) f _ e (w .0 .taken)))) (λ u. ⊎-elim (λ w. (omega (arith, h), ap length (w .8) ∙ w .4 .kept .1 .1 .1 .0 ∙ t .inv .1, rw (w .8, w .9) (turn-letter (x .s) (x .node .now) (x .table .now) (x .i) (x .p) (contents (x .kind) (x .queue .now) (x .q)) (x .marks .now) (t .marks) (t .j) (t .gap) (t .inv .2) f _ e _ _ (w .4 .ensures) (w .0 .left) (not-false _ (w .7 .left))))) (λ w. (omega (arith, h), ap length (w .8) ∙ w .4 .kept .1 .1 .1 .1 .0 ∙ t .inv .1, rw (w .8, w .9) (turn-letter (x .s) (x .node .now) (x .table .now) (x .i) (x .p) (contents (x .kind) (x .queue .now) (x .q)) (x .marks .now) (t .marks) (t .j) (t .gap) (t .inv .2) f _ e _ _ (w .4 .ensures) (w .0 .left) (not-false _ (w .7 .left))))) u) (c .if1 .came)
 
--- src/lib.rt:127:1
 same-length-3 : tie.Need-same-length-3 Inv-loop μ-loop
 same-length-3 c = search needs
 
--- src/lib.rt:127:1
 returns-3 : tie.Need-returns-3 Inv-loop μ-loop
 returns-3 c = let y = c .before .before .before .before .before .before .before .before .before in let x = y .args in let t = c .before .loop in let n = length-contents (x .kind) (x .queue .now) (x .q) (y .pre .0) in turn-end (x .s) (x .node .now) (x .table .now) (x .i) (x .p) (contents (x .kind) (x .queue .now) (x .q)) (x .marks .now) (t .marks) (t .j) (t .gap) (t .inv .2) (omega arith)
 

@@ -1,75 +1,57 @@
+-- `judging::go_far` meets its contract. Assumes nothing.
 use Rattle.visits.proofs.Walks.{was-over, was-further}
 use mathlib.Core.Path.{_≡_}
-use Prim.Native.Nat.{ℕ, _+_, _-_}
+use Prim.Native.Nat.{ℕ, _-_}
 use native.Mathlib.Omega.{arith}
 use borrow.Author.Needs.{needs}
 use Rattle.judging.proofs.go_far.Statement.{statement}
 use Rattle.judging.proofs.go_far.Tie as tie
-use Rattle.judging.proofs.go_far.Reads as reads
-use Rattle.judging.proofs.go_far.Lts as lts
-use Rattle.visits.proofs.follow.Reads as follow-reads
-use Rattle.visits.proofs.go_on.Reads as go-on-reads
 
 down : (n : ℕ) → n - 2 ≡ n - 1 - 1
 down n = omega arith
 
--- src/lib.rt:69:9
 go-on-requires : tie.Need-go-on-requires
 go-on-requires c κs = search needs
 
--- src/lib.rt:71:20
 enum-known-first : tie.Need-enum-known-first
 enum-known-first c = search needs
 
--- src/lib.rt:71:26
 same-length : tie.Need-same-length
 same-length c = search needs
 
--- src/lib.rt:71:26
 returns : tie.Need-returns
 returns c = let x = c .before .before .before .before .before .before .before .before .before .args in was-over (x .node .now) (x .before) (x .width) (x .m) (x .owed) (x .b) (x .marks .now) _ _ (c .before .before .before .before .before .go-on .ensures) _ (c .before .first .given .1)
 
--- src/lib.rt:72:18
 enum-known-first-2 : tie.Need-enum-known-first-2
 enum-known-first-2 c = search needs
 
--- src/lib.rt:74:67
 sub-go-on : tie.Need-sub-go-on
 sub-go-on c = let x = c .before .before .before .before .before .before .before .before .before .before .args in omega (arith, (was-further (x .node .now) (x .before) (x .width) (x .m) (x .owed) (x .b) (x .marks .now) _ _ (c .before .before .before .before .before .before .go-on .ensures) _ (c .before .before .first2 .given .1)) .1)
 
--- src/lib.rt:74:9
 go-on-requires-2 : tie.Need-go-on-requires-2
 go-on-requires-2 c κs = let y = c .before .before .before .before .before .before .before .before .before .before in let x = y .args in (y .pre .0, (omega (arith, c .before .before .before .before .before .before .go-on .kept .1 .1 .1 .1 .0, y .pre .1 .0), (was-further (x .node .now) (x .before) (x .width) (x .m) (x .owed) (x .b) (x .marks .now) _ _ (c .before .before .before .before .before .before .go-on .ensures) _ (c .before .before .first2 .given .1)) .0))
 
--- src/lib.rt:76:20
 enum-known-second : tie.Need-enum-known-second
 enum-known-second c = search needs
 
--- src/lib.rt:76:26
 same-length-2 : tie.Need-same-length-2
 same-length-2 c = search needs
 
--- src/lib.rt:76:26
 returns-2 : tie.Need-returns-2
 returns-2 c = let x = c .before .before .before .before .before .before .before .before .before .before .before .before .before .before .before .before .args in (was-further (x .node .now) (x .before) (x .width) (x .m) (x .owed) (x .b) (x .marks .now) _ _ (c .before .before .before .before .before .before .before .before .before .before .before .before .go-on .ensures) _ (c .before .before .before .before .before .before .before .before .first2 .given .1)) .2 _ _ (was-over (x .node .now) (x .before) (x .width) (x .m) _ _ _ _ _ (c .before .before .before .before .before .go-on2 .ensures) _ (c .before .second .given .1))
 
--- src/lib.rt:77:18
 enum-known-second-2 : tie.Need-enum-known-second-2
 enum-known-second-2 c = search needs
 
--- src/lib.rt:79:55
 sub-follow : tie.Need-sub-follow
 sub-follow c = let x = c .before .before .before .before .before .before .before .before .before .before .before .before .before .before .before .before .before .args in omega (arith, (was-further (x .node .now) (x .before) (x .width) (x .m) (x .owed) (x .b) (x .marks .now) _ _ (c .before .before .before .before .before .before .before .before .before .before .before .before .before .go-on .ensures) _ (c .before .before .before .before .before .before .before .before .before .first2 .given .1)) .1, (was-further (x .node .now) (x .before) (x .width) (x .m) _ _ _ _ _ (c .before .before .before .before .before .before .go-on2 .ensures) _ (c .before .before .second2 .given .1)) .1)
 
--- src/lib.rt:79:5
 follow-requires : tie.Need-follow-requires
 follow-requires c κs = let y = c .before .before .before .before .before .before .before .before .before .before .before .before .before .before .before .before .before in let x = y .args in (y .pre .0, (omega (arith, c .before .before .before .before .before .before .before .before .before .before .before .before .before .go-on .kept .1 .1 .1 .1 .0, c .before .before .before .before .before .before .go-on2 .kept .1 .1 .1 .1 .0, y .pre .1 .0), (was-further (x .node .now) (x .before) (x .width) (x .m) _ _ _ _ _ (c .before .before .before .before .before .before .go-on2 .ensures) _ (c .before .before .second2 .given .1)) .0))
 
--- src/lib.rt:55:1
 same-length-3 : tie.Need-same-length-3
 same-length-3 c = search needs
 
--- src/lib.rt:55:1
 returns-3 : tie.Need-returns-3
 returns-3 c = let x = c .before .before .before .before .before .before .before .before .before .before .before .before .before .before .before .before .before .before .before .before .args in let e : x .owed - 2 ≡ x .owed - 1 - 1 = down (x .owed) in (was-further (x .node .now) (x .before) (x .width) (x .m) (x .owed) (x .b) (x .marks .now) _ _ (c .before .before .before .before .before .before .before .before .before .before .before .before .before .before .before .before .go-on .ensures) _ (c .before .before .before .before .before .before .before .before .before .before .before .before .first2 .given .1)) .2 _ _ ((was-further (x .node .now) (x .before) (x .width) (x .m) _ _ _ _ _ (c .before .before .before .before .before .before .before .before .before .go-on2 .ensures) _ (c .before .before .before .before .before .second2 .given .1)) .2 _ _ (rw e at (c .before .before .follow .ensures)))
 

@@ -1,3 +1,4 @@
+-- `judging::is_filled` meets its contract. Assumes nothing.
 use mathlib.Core.Bool.{true}
 use Rattle.judging.proofs.Filled.{filled-no, filled-queue, filled-yes}
 use borrow.Author.Tests.{not-true, not-false}
@@ -5,28 +6,19 @@ use mathlib.Core.Path.{sym, _∙_}
 use borrow.Author.Needs.{needs}
 use Rattle.judging.proofs.is_filled.Statement.{statement}
 use Rattle.judging.proofs.is_filled.Tie as tie
-use Rattle.judging.proofs.is_filled.Reads as reads
-use Rattle.judging.proofs.is_filled.Lts as lts
-use Rattle.judging.proofs.are_right_items.Reads as are-right-items-reads
-use Rattle.shapes.proofs.is_in_shape.Reads as is-in-shape-reads
 
--- src/lib.rt:195:9
 is-in-shape-requires : tie.Need-is-in-shape-requires
 is-in-shape-requires c κs = search needs
 
--- src/lib.rt:196:9
 returns : tie.Need-returns
 returns c = let x = c .before .before .before .before .before .before .before .args in filled-no (x .kind) (x .queue .now) (x .q) _ _ (sym (c .before .is-in-shape .ensures) ∙ not-true _ (c .if1 .taken)) _
 
--- src/lib.rt:198:5
 are-right-items-requires : tie.Need-are-right-items-requires
 are-right-items-requires c κs = let y = c .before .before .before .before .before .before .before .before in let x = y .args in (filled-queue (x .kind) (x .queue .now) (x .q) true (x .marks .now) (sym (c .before .before .is-in-shape .ensures) ∙ not-false _ (c .before .if1 .left)) (y .pre .0), (y .pre .1 .0, (y .pre .1 .1 .0, y .pre .1 .1 .1)))
 
--- src/lib.rt:174:1
 same-length : tie.Need-same-length
 same-length c = search needs
 
--- src/lib.rt:174:1
 returns-2 : tie.Need-returns-2
 returns-2 c = let y = c .before .before .before .before .before .before .before .before .before .before .before in let x = y .args in filled-yes (x .kind) (x .queue .now) (x .q) _ _ (sym (c .before .before .before .before .before .is-in-shape .ensures) ∙ not-false _ (c .before .before .before .before .if1 .left)) _ _ (c .before .before .are-right-items .ensures)
 

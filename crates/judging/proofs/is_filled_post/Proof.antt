@@ -1,20 +1,15 @@
+-- `judging::is_filled_post` meets its contract. Assumes nothing.
 use Rattle.judging.proofs.Filled.{post-told}
 use borrow.Author.Needs.{needs}
 use Rattle.judging.proofs.is_filled_post.Statement.{statement}
 use Rattle.judging.proofs.is_filled_post.Tie as tie
-use Rattle.judging.proofs.is_filled_post.Reads as reads
-use Rattle.judging.proofs.is_filled_post.Lts as lts
-use Rattle.judging.proofs.is_filled.Reads as is-filled-reads
 
--- src/lib.rt:235:9
 is-filled-requires : tie.Need-is-filled-requires
 is-filled-requires c κs = search needs
 
--- src/lib.rt:216:1
 same-length : tie.Need-same-length
 same-length c = search needs
 
--- src/lib.rt:216:1
 returns : tie.Need-returns
 returns c = let y = c .before .before .before .before .before .before .before .before .before in let x = y .args in post-told (x .s) (x .node .now) (x .table .now) (x .i) (x .p) (y .pre .1 .0 .stretch .range .m .low) (x .kind) (x .queue .now) (x .q) (x .marks .now) _ _ (c .before .before .is-filled .ensures)
 

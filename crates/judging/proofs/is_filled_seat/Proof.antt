@@ -1,59 +1,44 @@
+-- `judging::is_filled_seat` meets its contract. Assumes nothing.
 use mathlib.Core.Path.{sym, _∙_}
 use Rattle.judging.proofs.Filled.{seat-none, seat-bad, seat-queue, seat-first, seat-told}
 use native.Mathlib.Omega.{arith}
 use borrow.Author.Needs.{needs}
 use Rattle.judging.proofs.is_filled_seat.Statement.{statement}
 use Rattle.judging.proofs.is_filled_seat.Tie as tie
-use Rattle.judging.proofs.is_filled_seat.Reads as reads
-use Rattle.judging.proofs.is_filled_seat.Lts as lts
-use Rattle.judging.proofs.is_filled.Reads as is-filled-reads
-use Rattle.queues.proofs.item.Reads as item-reads
 
--- src/lib.rt:259:9
 returns : tie.Need-returns
 returns c = let y = c .before .before .before .before .before in let x = y .args in seat-none (x .kind) (x .node .now) (x .q) (x .s .m) (x .task) _ _ _ (y .pre .0 .2) (c .if1 .taken)
 
--- src/lib.rt:261:9
 is-filled-requires : tie.Need-is-filled-requires
 is-filled-requires c κs = search needs
 
--- src/lib.rt:263:9
 same-length : tie.Need-same-length
 same-length c = search needs
 
--- src/lib.rt:263:9
 returns-2 : tie.Need-returns-2
 returns-2 c = let y = c .before .before .before .before .before .before .before .before .before .before in let x = y .args in seat-bad (x .s) (x .node .now) (x .table .now) (x .i) (x .p) (y .pre .1 .0 .stretch .range .m .low) (x .kind) (x .node .now) (x .q) (x .marks .now) _ _ (c .before .before .before .is-filled .ensures) (x .task) (c .if2 .taken)
 
--- src/lib.rt:265:8
 item-requires : tie.Need-item-requires
 item-requires c κs = let y = c .before .before .before .before .before .before .before .before .before .before in let x = y .args in (seat-queue (x .s) (x .node .now) (x .table .now) (x .i) (x .p) (y .pre .1 .0 .stretch .range .m .low) (x .kind) (x .node .now) (x .q) (x .marks .now) _ _ (c .before .before .before .is-filled .ensures) (x .task) (c .if2 .left) (y .pre .0 .0), omega (arith, y .pre .0 .0 .some))
 
--- src/lib.rt:266:9
 same-length-2 : tie.Need-same-length-2
 same-length-2 c = search needs
 
--- src/lib.rt:266:9
 returns-3 : tie.Need-returns-3
 returns-3 c = let y = c .before .before .before .before .before .before .before .before .before .before .before .before in let x = y .args in seat-first (x .s) (x .node .now) (x .table .now) (x .i) (x .p) (y .pre .1 .0 .stretch .range .m .low) (x .kind) (x .node .now) (x .q) (x .marks .now) _ _ (c .before .before .before .before .before .is-filled .ensures) (x .task) (c .before .before .if2 .left) (y .pre .0 .2) (sym (c .before .item .ensures) ∙ c .if3 .taken)
 
--- src/lib.rt:268:10
 add-result : tie.Need-add-result
 add-result c = search needs
 
--- src/lib.rt:268:5
 mul-result : tie.Need-mul-result
 mul-result c = search needs
 
--- src/lib.rt:268:5
 shared-slice-read-result : tie.Need-shared-slice-read-result
 shared-slice-read-result c = search needs
 
--- src/lib.rt:240:1
 same-length-3 : tie.Need-same-length-3
 same-length-3 c = search needs
 
--- src/lib.rt:240:1
 returns-4 : tie.Need-returns-4
 returns-4 c = let y = c .before .before .before .before .before .before .before .before .before .before .before .before .before in let x = y .args in seat-told (x .s) (x .node .now) (x .table .now) (x .i) (x .p) (y .pre .1 .0 .stretch .range .m .low) (x .kind) (x .node .now) (x .q) (x .marks .now) _ _ (c .before .before .before .before .before .before .is-filled .ensures) (x .task) (c .before .before .before .if2 .left) (y .pre .0 .2) (c .before .before .before .before .before .before .before .before .if1 .left) (λ z. c .before .if3 .left (c .before .before .item .ensures ∙ z))
 

@@ -1,3 +1,4 @@
+-- `places::is_right_marked` meets its contract. Assumes nothing.
 use Rattle.places.proofs.Once.{free-no, places-no, node-is}
 use Rattle.places.proofs.Links.{links-no}
 use Rattle.places.proofs.Begun.{lent-stretch}
@@ -7,54 +8,37 @@ use native.Mathlib.Omega.{arith}
 use mathlib.Core.Path.{sym, _∙_}
 use Rattle.places.proofs.is_right_marked.Statement.{statement}
 use Rattle.places.proofs.is_right_marked.Tie as tie
-use Rattle.places.proofs.is_right_marked.Reads as reads
-use Rattle.places.proofs.is_right_marked.Lts as lts
-use Rattle.places.proofs.are_all_marked.Reads as are-all-marked-reads
-use Rattle.places.proofs.are_links_low.Reads as are-links-low-reads
-use Rattle.places.proofs.are_right_places.Reads as are-right-places-reads
-use Rattle.places.proofs.is_right_free.Reads as is-right-free-reads
 
--- src/lib.rt:286:9
 are-links-low-requires : tie.Need-are-links-low-requires
 are-links-low-requires c κs = let y = c .before .before .before .before .before in let x = y .args in lent-stretch (x .s) (x .memory .now) (x .node .now) (x .table .now) (x .seats .now) (x .i) (y .pre .0)
 
--- src/lib.rt:287:9
 returns : tie.Need-returns
 returns c = let y = c .before .before .before .before .before .before .before in let x = y .args in links-no (x .s) (x .memory .now) (x .i) (x .node .now) (y .pre .0 .stretch) (sym (c .before .are-links-low .ensures) ∙ not-true _ (c .if1 .taken))
 
--- src/lib.rt:289:9
 is-right-free-requires : tie.Need-is-right-free-requires
 is-right-free-requires c κs = let y = c .before .before .before .before .before .before .before .before in let x = y .args in (lent-stretch (x .s) (x .memory .now) (x .node .now) (x .table .now) (x .seats .now) (x .i) (y .pre .0), omega (arith, y .pre .1 .long, y .pre .0 .looked .sized .range .m .high))
 
--- src/lib.rt:290:9
 same-length : tie.Need-same-length
 same-length c = search needs
 
--- src/lib.rt:290:9
 returns-2 : tie.Need-returns-2
 returns-2 c = let y = c .before .before .before .before .before .before .before .before .before .before .before .before in let x = y .args in free-no (x .s) (x .memory .now) (x .node .now) (x .table .now) (x .seats .now) (x .i) (y .pre .0) (x .marks .now) (y .pre .1) (sym (c .before .before .before .is-right-free .ensures .is) ∙ not-true _ (c .if2 .taken))
 
--- src/lib.rt:292:9
 are-right-places-requires : tie.Need-are-right-places-requires
 are-right-places-requires c κs = let y = c .before .before .before .before .before .before .before .before .before .before .before .before .before in (y .pre .0, omega (arith, y .pre .1 .long, y .pre .0 .looked .sized .range .m .high, c .before .before .before .before .is-right-free .kept .1 .1 .0))
 
--- src/lib.rt:293:9
 same-length-2 : tie.Need-same-length-2
 same-length-2 c = search needs
 
--- src/lib.rt:293:9
 returns-3 : tie.Need-returns-3
 returns-3 c = let y = c .before .before .before .before .before .before .before .before .before .before .before .before .before .before .before .before .before in let x = y .args in places-no (x .s) (x .memory .now) (x .node .now) (x .table .now) (x .seats .now) (x .i) (y .pre .0) (x .marks .now) (y .pre .1) (sym (c .before .before .before .before .before .before .before .before .is-right-free .ensures .is) ∙ not-false _ (c .before .before .before .before .before .if2 .left)) _ (c .before .before .before .before .before .before .before .before .is-right-free .ensures .marks (not-false _ (c .before .before .before .before .before .if2 .left))) (sym (c .before .before .before .are-right-places .ensures .is) ∙ not-true _ (c .if3 .taken))
 
--- src/lib.rt:295:5
 are-all-marked-requires : tie.Need-are-all-marked-requires
 are-all-marked-requires c κs = let y = c .before .before .before .before .before .before .before .before .before .before .before .before .before .before .before .before .before .before in omega (arith, y .pre .1 .long, y .pre .0 .looked .sized .range .m .high, c .before .before .before .before .before .before .before .before .before .is-right-free .kept .1 .1 .0, c .before .before .before .before .are-right-places .kept .1 .1 .1 .1 .1 .0)
 
--- src/lib.rt:273:1
 same-length-3 : tie.Need-same-length-3
 same-length-3 c = search needs
 
--- src/lib.rt:273:1
 returns-4 : tie.Need-returns-4
 returns-4 c = let y = c .before .before .before .before .before .before .before .before .before .before .before .before .before .before .before .before .before .before .before in let x = y .args in node-is (x .s) (x .memory .now) (x .node .now) (x .table .now) (x .seats .now) (x .i) (y .pre .0) (x .marks .now) (y .pre .1) (sym (c .before .before .before .before .before .before .before .before .before .before .is-right-free .ensures .is) ∙ not-false _ (c .before .before .before .before .before .before .before .if2 .left)) _ (c .before .before .before .before .before .before .before .before .before .before .is-right-free .ensures .marks (not-false _ (c .before .before .before .before .before .before .before .if2 .left))) (sym (c .before .before .before .before .before .are-right-places .ensures .is) ∙ not-false _ (c .before .before .if3 .left)) _ (c .before .before .before .before .before .are-right-places .ensures .marks (not-false _ (c .before .before .if3 .left))) _ (c .are-all-marked .ensures)
 

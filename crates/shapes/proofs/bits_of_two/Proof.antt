@@ -1,31 +1,24 @@
+-- `shapes::bits_of_two` meets its contract. Assumes nothing.
 use Rattle.shapes.proofs.Clear.{few-two}
 use borrow.Author.Needs.{needs}
 use Rattle.shapes.proofs.bits_of_two.Statement.{statement}
 use Rattle.shapes.proofs.bits_of_two.Tie as tie
-use Rattle.shapes.proofs.bits_of_two.Reads as reads
-use Rattle.shapes.proofs.bits_of_two.Lts as lts
 
--- src/lib.rt:16:5
 mul-result : tie.Need-mul-result
 mul-result c = search needs
 
--- src/lib.rt:16:5
 shared-slice-read-result : tie.Need-shared-slice-read-result
 shared-slice-read-result c = search needs
 
--- src/lib.rt:16:20
 add-result : tie.Need-add-result
 add-result c = search needs
 
--- src/lib.rt:16:15
 mul-result-2 : tie.Need-mul-result-2
 mul-result-2 c = search needs
 
--- src/lib.rt:16:15
 shared-slice-read-result-2 : tie.Need-shared-slice-read-result-2
 shared-slice-read-result-2 c = search needs
 
--- src/lib.rt:12:1
 returns : tie.Need-returns
 returns c = let x = c .before .before .args in few-two (x .node .now) (x .a)
 

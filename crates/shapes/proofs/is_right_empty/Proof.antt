@@ -22,14 +22,14 @@ returns c = let x = c .before .before .before .before .args in shape-start (x .k
 add-base : tie.Need-add-base
 add-base c = search needs
 
-add-are-zero : tie.Need-add-are-zero
-add-are-zero c = search needs
+add-are-some-zero : tie.Need-add-are-some-zero
+add-are-some-zero c = search needs
 
-are-zero-requires : tie.Need-are-zero-requires
-are-zero-requires c κs = search needs
+are-some-zero-requires : tie.Need-are-some-zero-requires
+are-some-zero-requires c κs = search needs
 
 returns-2 : tie.Need-returns-2
-returns-2 c = let y = c .before .before .before .before .before .before .before in let x = y .args in c .are-zero .ensures ∙ empty-is (x .k) (x .node .now) (x .q) (y .pre .1) (omega arith)
+returns-2 c = let y = c .before .before .before .before .before .before .before in let x = y .args in c .are-some-zero .ensures ∙ empty-is (x .k) (x .node .now) (x .q) (y .pre .1) (omega arith)
 
 pub is-right-empty-spec : {M : Type 1} → statement M
 is-right-empty-spec =
@@ -40,6 +40,6 @@ is-right-empty-spec =
     cast-first
     returns
     add-base
-    add-are-zero
-    are-zero-requires
+    add-are-some-zero
+    are-some-zero-requires
     returns-2)

@@ -1,3 +1,4 @@
+-- `soundness::is_other` meets its contract. Assumes nothing.
 use Rattle.soundness.proofs.Places.{other-high, other-own, other-is}
 use Rattle.places.proofs.Begun.{node-lent}
 use lib.ListN.{getD}
@@ -7,58 +8,40 @@ use mathlib.Core.List.{List}
 use borrow.Author.Needs.{needs}
 use Rattle.soundness.proofs.is_other.Statement.{statement}
 use Rattle.soundness.proofs.is_other.Tie as tie
-use Rattle.soundness.proofs.is_other.Reads as reads
-use Rattle.soundness.proofs.is_other.Lts as lts
-use Rattle.layout.proofs.node_at.Reads as node-at-reads
-use Rattle.layout.proofs.node_size.Reads as node-size-reads
-use Rattle.layout.proofs.send_at.Reads as send-at-reads
-use Rattle.soundness.proofs.items_at.Reads as items-at-reads
 
--- src/lib.rt:33:9
 returns : tie.Need-returns
 returns c = let x = c .before .before .args in other-high (x .s) (x .memory .now) (x .j) (x .other) (c .if1 .taken)
 
--- src/lib.rt:36:9
 returns-2 : tie.Need-returns-2
 returns-2 c = let x = c .before .before .before .args in other-own (x .s) (x .memory .now) (x .j) (x .other) (c .if2 .taken)
 
--- src/lib.rt:38:9
 node-size-requires : tie.Need-node-size-requires
 node-size-requires c κs = search needs
 
--- src/lib.rt:39:9
 node-at-requires : tie.Need-node-at-requires
 node-at-requires c κs = search needs
 
--- src/lib.rt:40:13
 add-e : tie.Need-add-e
 add-e c = search needs
 
--- src/lib.rt:41:9
 send-at-requires : tie.Need-send-at-requires
 send-at-requires c κs = search needs
 
--- src/lib.rt:42:19
 mul-items-at : tie.Need-mul-items-at
 mul-items-at c = search needs
 
--- src/lib.rt:42:19
 sub-items-at : tie.Need-sub-items-at
 sub-items-at c = search needs
 
--- src/lib.rt:42:19
 part-items-at-start : tie.Need-part-items-at-start
 part-items-at-start c = search needs
 
--- src/lib.rt:42:19
 part-items-at-end : tie.Need-part-items-at-end
 part-items-at-end c = search needs
 
--- src/lib.rt:42:10
 items-at-requires : tie.Need-items-at-requires
 items-at-requires c κs = search needs
 
--- src/lib.rt:27:1
 returns-3 : tie.Need-returns-3
 returns-3 c = let x = c .before .before .before .before .before .before .before .before .args in other-is (x .s) (x .memory .now) (x .j) (x .other) (c .before .before .before .before .before .if2 .left) (c .before .before .before .before .before .before .if1 .left) _ (c .items-at .ensures ∙ ap₂ (λ (m : List ℕ) (q : ℕ). getD m (q + 1) 0) (node-lent (x .s) (x .memory .now) (x .other) _ _ (c .before .before .before .node-at .ensures .is) (c .before .before .before .before .node-size .ensures .is)) (c .before .before .send-at .ensures .is))
 

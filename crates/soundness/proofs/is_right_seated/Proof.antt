@@ -1,36 +1,26 @@
+-- `soundness::is_right_seated` meets its contract. Assumes nothing.
 use Rattle.soundness.proofs.Rules.{seated-standing, looked, seated-nodes, lettered, seated-copies}
 use borrow.Author.Tests.{not-true, not-false}
 use mathlib.Core.Path.{sym, _∙_}
 use borrow.Author.Needs.{needs}
 use Rattle.soundness.proofs.is_right_seated.Statement.{statement}
 use Rattle.soundness.proofs.is_right_seated.Tie as tie
-use Rattle.soundness.proofs.is_right_seated.Reads as reads
-use Rattle.soundness.proofs.is_right_seated.Lts as lts
-use Rattle.copies.proofs.are_right_copies.Reads as are-right-copies-reads
-use Rattle.soundness.proofs.are_right_nodes.Reads as are-right-nodes-reads
-use Rattle.soundness.proofs.are_standing.Reads as are-standing-reads
 
--- src/lib.rt:114:9
 are-standing-requires : tie.Need-are-standing-requires
 are-standing-requires c κs = search needs
 
--- src/lib.rt:115:9
 returns : tie.Need-returns
 returns c = let x = c .before .before .before .before .args in seated-standing (x .s) (x .memory .now) (sym (c .before .are-standing .ensures) ∙ not-true _ (c .if1 .taken))
 
--- src/lib.rt:117:9
 are-right-nodes-requires : tie.Need-are-right-nodes-requires
 are-right-nodes-requires c κs = let y = c .before .before .before .before in let x = y .args in (looked (x .s) (x .memory .now) (sym (c .before .are-standing .ensures) ∙ not-false _ (c .if1 .left)) (y .pre .0) (y .pre .1 .0), y .pre .1 .1)
 
--- src/lib.rt:118:9
 returns-2 : tie.Need-returns-2
 returns-2 c = let x = c .before .before .before .before .before .before .args in seated-nodes (x .s) (x .memory .now) (sym (c .before .before .before .are-standing .ensures) ∙ not-false _ (c .before .before .if1 .left)) (sym (c .before .are-right-nodes .ensures) ∙ not-true _ (c .if2 .taken))
 
--- src/lib.rt:120:5
 are-right-copies-requires : tie.Need-are-right-copies-requires
 are-right-copies-requires c κs = let y = c .before .before .before .before .before .before in let x = y .args in lettered (x .s) (x .memory .now) (sym (c .before .before .before .are-standing .ensures) ∙ not-false _ (c .before .before .if1 .left)) (sym (c .before .are-right-nodes .ensures) ∙ not-false _ (c .if2 .left)) (y .pre .0) (y .pre .1 .0)
 
--- src/lib.rt:108:1
 returns-3 : tie.Need-returns-3
 returns-3 c = let x = c .before .before .before .before .before .before .before .args in seated-copies (x .s) (x .memory .now) (sym (c .before .before .before .before .are-standing .ensures) ∙ not-false _ (c .before .before .before .if1 .left)) (sym (c .before .before .are-right-nodes .ensures) ∙ not-false _ (c .before .if2 .left)) _ (c .are-right-copies .ensures)
 
