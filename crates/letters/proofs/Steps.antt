@@ -319,10 +319,10 @@ module _ (s : Settings) (memory : List ℕ) (size : ℕ) (es : size ≡ nodeSize
       back f (f + size) memory (omega arith) (ew ∙ ap₂ (λ (m ws : List ℕ). written s m c ws) (node-part j f ef) l)
       ∙ ap₂ (λ (k z : ℕ). splice memory k (k + z) (written s (node s memory j) c (letter s (node s memory i) n b))) ef es
 
--- a side row that has room for every letter has room for n words
-module _ (s : Settings) (memory : List ℕ) (n i b j c : ℕ) (side : List ℕ) (pre : Copies s memory n i b j c) (long : length side ≡ 1024) where
+-- a side row that has room for n words
+module _ (s : Settings) (memory : List ℕ) (n i b j c : ℕ) (side : List ℕ) (pre : Copies s memory n i b j c) (long : n ≤ length side) where
   side-long : length (take (n - 0) side) ≡ n
-  side-long = let m = pre .from .most in length-take-le (n - 0) side (omega arith) ∙ omega arith
+  side-long = length-take-le (n - 0) side (omega arith) ∙ omega arith
 
   pub copies-side : Copies s memory (length (take (n - 0) side)) i b j c
   copies-side = rw side-long pre

@@ -154,11 +154,16 @@ fn copy_through(
 }
 
 // Copies the n words of the letter that block b begins in node i into the chain that block c begins in
-// node j.
+// node j. Most letters are short: a short row for them is made sooner.
 pub fn copy(memory: &mut [u32], s: Settings, n: usize, i: usize, b: u32, j: usize, c: u32)
     requires { ⌜ Copies s (now memory) n i b j c ⌝ }
     ensures { λ _. ⌜ now (memory .exit) ≡ copied s (now (memory .entry)) n i b j c ⌝ }
 {
-    let mut side = [0u32; 1024];
-    copy_through(memory, s, i, b, j, c, &mut side[0..n]);
+    if n <= 128 {
+        let mut short = [0u32; 128];
+        copy_through(memory, s, i, b, j, c, &mut short[0..n]);
+    } else {
+        let mut side = [0u32; 1024];
+        copy_through(memory, s, i, b, j, c, &mut side[0..n]);
+    }
 }
