@@ -18,9 +18,9 @@ use Rattle.visits.specs.Letters.{isOn, fitsLength, lettersRight, Judged, Whole,
 use Rattle.visits.proofs.Walks.{told-bad, told-ended, visited-as}
 use Rattle.visits.proofs.Read.{fits-is, near-block, near-length, head-word, word-lies}
 use Rattle.visits.proofs.Judge.{header-is, letter-bad, its-ends, left-least, its-count, letter-short, letter-head}
-use Rattle.judging.specs.Aim.{isAimed, Near}
+use Rattle.judging.specs.Aim.{isAimed, Headed}
 
-module _ (s : Settings) (l t : List ℕ) (i p : ℕ) (post : Bool) (k owner : ℕ) (g : Near s l t i p post k owner) (b : ℕ) (some : 1 ≤ b) (marks : List ℕ) (before : ℕ) (place : before ≡ blockAt s 1 - 1) (told : ℕ) (new : List ℕ) (w : Walked l before (s .b) (s .m) (s .m) b marks told new) where
+module _ (s : Settings) (l t : List ℕ) (i p : ℕ) (post : Bool) (k owner : ℕ) (g : Headed s l t i p post k owner) (b : ℕ) (some : 1 ≤ b) (marks : List ℕ) (before : ℕ) (place : before ≡ blockAt s 1 - 1) (told : ℕ) (new : List ℕ) (w : Walked l before (s .b) (s .m) (s .m) b marks told new) where
   there : b ≡ 0 → ⊥
   there z = omega arith
 

@@ -20,7 +20,7 @@ pub record Aimed (table : List ℕ) (i p : ℕ) (post : Bool) (k owner : ℕ) : 
   pub is : (ws : List ℕ) → isAimed post i k owner (getD ws 1 0) (getD ws 2 0) (getD ws 3 0) ≡ rightPlace table i p ws
 
 -- a node's stretch whose blocks carry a header each, the task table, and what a place of the node asks
-pub record Near (s : Settings) (words ids : List ℕ) (i p : ℕ) (post : Bool) (k owner : ℕ) : Type 0 where
+pub record Headed (s : Settings) (words ids : List ℕ) (i p : ℕ) (post : Bool) (k owner : ℕ) : Type 0 where
   pub stretch : Stretch s words
   pub wide : 5 < s .b
   pub table : rightTable ids ≡ true

@@ -15,7 +15,7 @@ ghost use Rattle.sound.specs.Blocks.{chains};
 ghost use Rattle.shapes.specs.Shape.{rightPost, rightSeat};
 ghost use Rattle.visits.specs.Marks.{marked, Linked, Walked};
 ghost use Rattle.visits.specs.Letters.{isOn, lettersRight, Judged, Placing};
-ghost use Rattle.judging.specs.Aim.{isAimed, Aimed, Near};
+ghost use Rattle.judging.specs.Aim.{isAimed, Aimed, Headed};
 ghost use Rattle.judging.specs.Told.{Told};
 
 // Whether the four words are a header of bound tasks on their nodes, as the place wants it: what is wrong is joined and then looked at.
@@ -93,7 +93,7 @@ fn is_right_near(
     owner: u32,
     b: u32,
 ) -> bool
-    requires { ⌜ Near s (now node) (now table) i p post k owner ⌝ }
+    requires { ⌜ Headed s (now node) (now table) i p post k owner ⌝ }
     requires { ⌜ s .m < length (now marks) ⌝ }
     requires { ⌜ 1 ≤ b ⌝ }
     ensures { λ r. ⌜ Judged (lettersRight s (now (node .entry)) (now (table .entry)) i p (now (marks .entry)) (live (b ∷ []))) (marked (now (marks .entry)) (chains s (now (node .entry)) (live (b ∷ [])))) r (now (marks .exit)) ⌝ }
