@@ -1,5 +1,5 @@
 -- One step of each walk along the links, at a count n that the code holds as n and n - 1. Assumes nothing.
-use mathlib.Core.Path.{_≡_, refl, ap, _∙_, subst}
+use mathlib.Core.Path.{_≡_, refl, sym, ap, _∙_, subst}
 use mathlib.Core.List.{List, [], _∷_}
 use Prim.Native.Nat.{ℕ, zero, suc, _-_, _≤_, _<_}
 use native.Mathlib.Omega.{arith}
@@ -73,8 +73,8 @@ module _ (s : Settings) (node : List ℕ) where
   pub nth-none : (n b : ℕ) → b ≡ 0 → getD (list s node n b) (n - 1) 0 ≡ 0
   nth-none n b h = rw (list-none n b h)
 
-  pub nth-one : (n b : ℕ) → n ≡ 1 → (b ≡ 0 → ⊥) → getD (list s node n b) (n - 1) 0 ≡ b
-  nth-one n b e k = rw e (rw (list-some 0 b k))
+  pub nth-last : (n b : ℕ) → n ≡ 1 → getD (list s node n b) (n - 1) 0 ≡ b
+  nth-last n b e = same? b 0 (λ q t. nth-none n b q ∙ sym q) (λ q t. rw e (rw (list-some 0 b q)))
 
   pub nth-step : (n b : ℕ) → 2 ≤ n → (b ≡ 0 → ⊥) → getD (list s node n b) (n - 1) 0 ≡ getD (list s node (n - 1) (link s node b)) (n - 1 - 1) 0
   nth-step n b h k =

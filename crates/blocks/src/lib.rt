@@ -67,14 +67,16 @@ pub fn reach(node: &[u32], s: Settings, b: u32, n: usize) -> u32
     requires { ⌜ Reaches s (now node) n b ⌝ }
     ensures { λ r. ⌜ r ≡ getD (list s (now (node .entry)) n b) (n - 1) 0 ⌝ }
 {
-    if b == 0 {
-        return 0;
+    let mut at = b;
+    let mut rest = n;
+    while 1 < rest {
+        if at == 0 {
+            return 0;
+        }
+        at = link_of(node, s, at);
+        rest -= 1;
     }
-    if n == 1 {
-        return b;
-    }
-    let next = link_of(node, s, b);
-    reach(node, s, next, n - 1)
+    at
 }
 
 // What taking blocks answers: the first of them, or that there are too few.

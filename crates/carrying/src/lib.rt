@@ -97,7 +97,7 @@ pub fn deliver(memory: &mut [u32], s: Settings, j: usize, i: usize, c: u32, r: R
     hand_on(memory, s, j, i, a)
 }
 
-// Stage 1 on: takes space for node i's first letter, and copies it.
+// Stage 1 on: takes space for node i's first letter, and copies it. Stage 2 stands here again: the loop over letters makes no call.
 fn carry(memory: &mut [u32], s: Settings, j: usize, i: usize, r: Round) -> Round
     requires { ⌜ Carries s (now memory) j i 1 r ⌝ }
     ensures { λ a. ⌜ post (now (memory .exit)) a ≡ carried s j (now (memory .entry)) i r ⌝ }
@@ -107,7 +107,12 @@ fn carry(memory: &mut [u32], s: Settings, j: usize, i: usize, r: Round) -> Round
     let Stage::Done = how else {
         return postman::stop(r, 1, i, 0, how);
     };
-    deliver(memory, s, j, i, c, r)
+    let queued = stages::put_task(memory, s, j, c);
+    let Stage::Done = queued else {
+        return postman::stop(r, 2, i, c, queued);
+    };
+    let a = postman::one_letter(r);
+    hand_on(memory, s, j, i, a)
 }
 
 // Step 2 on node i: k letters.
@@ -115,15 +120,17 @@ fn carry_all(memory: &mut [u32], s: Settings, j: usize, i: usize, k: usize, r: R
     requires { ⌜ Carries s (now memory) j i k r ⌝ }
     ensures { λ a. ⌜ post (now (memory .exit)) a ≡ carriedAll s j k (now (memory .entry)) i r ⌝ }
 {
-    if k == 0 {
-        return r;
+    let mut letters = k;
+    let mut a = r;
+    while 0 < letters {
+        a = carry(memory, s, j, i, a);
+        let how = a.how;
+        let Stage::Done = how else {
+            return a;
+        };
+        letters -= 1;
     }
-    let a = carry(memory, s, j, i, r);
-    let how = a.how;
-    let Stage::Done = how else {
-        return a;
-    };
-    carry_all(memory, s, j, i, k - 1, a)
+    a
 }
 
 // Step 2 on the nodes from i on.
@@ -131,16 +138,18 @@ pub fn carry_from(memory: &mut [u32], s: Settings, j: usize, i: usize, r: Round)
     requires { ⌜ CarriesFrom s (now memory) j i r ⌝ }
     ensures { λ a. ⌜ post (now (memory .exit)) a ≡ carriedFrom s j (nodes - i) (now (memory .entry)) i r ⌝ }
 {
-    if 6 <= i {
-        return r;
+    let mut other = i;
+    let mut a = r;
+    while other < 6 {
+        let k = letters_for(memory, s, j, other);
+        a = carry_all(memory, s, j, other, k, a);
+        let how = a.how;
+        let Stage::Done = how else {
+            return a;
+        };
+        other += 1;
     }
-    let k = letters_for(memory, s, j, i);
-    let a = carry_all(memory, s, j, i, k, r);
-    let how = a.how;
-    let Stage::Done = how else {
-        return a;
-    };
-    carry_from(memory, s, j, i + 1, a)
+    a
 }
 
 // Step 1, one item of node i.
@@ -157,11 +166,13 @@ fn collect_all(memory: &mut [u32], s: Settings, j: usize, i: usize, k: usize, r:
     requires { ⌜ Collects s (now memory) j i k r ⌝ }
     ensures { λ a. ⌜ post (now (memory .exit)) a ≡ collectedAll s j k (now (memory .entry)) i r ⌝ }
 {
-    if k == 0 {
-        return r;
+    let mut items = k;
+    let mut a = r;
+    while 0 < items {
+        a = collect(memory, s, j, i, a);
+        items -= 1;
     }
-    let a = collect(memory, s, j, i, r);
-    collect_all(memory, s, j, i, k - 1, a)
+    a
 }
 
 // Step 1 on the nodes from i on.
@@ -169,10 +180,12 @@ pub fn collect_from(memory: &mut [u32], s: Settings, j: usize, i: usize, r: Roun
     requires { ⌜ CollectsFrom s (now memory) j i r ⌝ }
     ensures { λ a. ⌜ post (now (memory .exit)) a ≡ collectedFrom s j (nodes - i) (now (memory .entry)) i r ⌝ }
 {
-    if 6 <= i {
-        return r;
+    let mut other = i;
+    let mut a = r;
+    while other < 6 {
+        let k = acks_for(memory, s, j, other);
+        a = collect_all(memory, s, j, other, k, a);
+        other += 1;
     }
-    let k = acks_for(memory, s, j, i);
-    let a = collect_all(memory, s, j, i, k, r);
-    collect_from(memory, s, j, i + 1, a)
+    a
 }

@@ -13,10 +13,10 @@ use lib.Seq.{length-take-le}
 use Rattle.words.specs.Words.{splice}
 use Rattle.words.specs.Rows.{row}
 use Rattle.words.proofs.Lists.{put, le-or-lt}
-use Rattle.words.proofs.Parts.{length-part, part-splice, part-before, part-after, length-splice}
+use Rattle.words.proofs.Parts.{length-part, part-splice, splice-splice, part-before, part-after, length-splice}
 use Rattle.words.proofs.Rows.{start-lt, row-splice}
 use Rattle.settings.specs.declared.Settings.{Settings}
-use Rattle.layout.specs.Places.{nodeSize, nodeAt, nodeEnd, node}
+use Rattle.layout.specs.Places.{nodeSize, nodeAt, nodeEnd, node, withNode}
 use Rattle.layout.specs.Rows.{memoryWidth}
 use Rattle.layout.specs.Asked.{Stretch, Sized}
 use Rattle.layout.proofs.MemoryRows.{stretch-fits, start-stretch, width-stretch}
@@ -64,7 +64,7 @@ length-letter s stretch n b l =
 
 -- ---- the nodes of a memory
 module _ (s : Settings) (memory : List ℕ) (sz : Sized s memory) where
-  inside : (k : ℕ) → k < 6 → nodeEnd s k ≤ length memory
+  pub inside : (k : ℕ) → k < 6 → nodeEnd s k ≤ length memory
   inside k h = rw (sz .long) (stretch-fits s k h)
 
   pub node-long : (k : ℕ) → k < 6 → length (node s memory k) ≡ nodeSize s
@@ -73,42 +73,59 @@ module _ (s : Settings) (memory : List ℕ) (sz : Sized s memory) where
   pub node-stretch : (k : ℕ) → k < 6 → Stretch s (node s memory k)
   node-stretch k h = record { range = sz .range; long = node-long k h }
 
-  before-node : (k j : ℕ) → k < j → nodeEnd s k ≤ nodeAt s j
+  pub before-node : (k j : ℕ) → k < j → nodeEnd s k ≤ nodeAt s j
   before-node k j h = omega (arith, start-lt (memoryWidth s) (9 + k) (9 + j) (omega arith), start-stretch s k, start-stretch s j, width-stretch s k)
+
+  -- a stretch put in the place of node j's
+  module _ (j : ℕ) (j6 : j < 6) (u : List ℕ) (z : length u ≡ nodeSize s) where
+    u-long : length u ≡ nodeEnd s j - nodeAt s j
+    u-long = z ∙ omega arith
+
+    pub put-long : length (withNode s memory j u) ≡ length memory
+    put-long = length-splice memory (nodeAt s j) (nodeEnd s j) (omega arith) (inside j j6) u u-long
+
+    pub put-to : node s (withNode s memory j u) j ≡ u
+    put-to = part-splice memory (nodeAt s j) (nodeEnd s j) (omega arith) (inside j j6) u u-long
+
+    pub put-again : (v : List ℕ) → withNode s (withNode s memory j u) j v ≡ withNode s memory j v
+    put-again = splice-splice memory (nodeAt s j) (nodeEnd s j) (omega arith) (inside j j6) u u-long
+
+    pub put-away : (k : ℕ) → (k ≡ j → ⊥) → node s (withNode s memory j u) k ≡ node s memory k
+    put-away k ne =
+        ⊎-elim
+        (λ le. part-before memory (nodeAt s j) (nodeEnd s j) (omega arith) (inside j j6) u u-long (nodeAt s k) (nodeEnd s k) (omega arith) (before-node k j (omega arith)))
+        (λ lt. part-after memory (nodeAt s j) (nodeEnd s j) (omega arith) (inside j j6) u u-long (nodeAt s k) (nodeEnd s k) (before-node j k lt))
+        (le-or-lt k j)
 
   module _ (n i b j c : ℕ) (j6 : j < 6) where
     abbrev put-in : List ℕ
     put-in = written s (node s memory j) c (letter s (node s memory i) n b)
 
-    put-long : length put-in ≡ nodeEnd s j - nodeAt s j
-    put-long =
+    in-long : length put-in ≡ nodeSize s
+    in-long =
         length-laid s (needs s (length (letter s (node s memory i) n b))) (node s memory j) c (letter s (node s memory i) n b)
-        ∙ node-long j j6 ∙ omega arith
+        ∙ node-long j j6
 
     pub copy-long : length (copied s memory n i b j c) ≡ length memory
     unfolding copied
-    copy-long = length-splice memory (nodeAt s j) (nodeEnd s j) (omega arith) (inside j j6) put-in put-long
+    copy-long = put-long j j6 put-in in-long
 
     -- the destination's stretch has the letter written
     pub copy-to : node s (copied s memory n i b j c) j ≡ written s (node s memory j) c (letter s (node s memory i) n b)
     unfolding copied
-    copy-to = part-splice memory (nodeAt s j) (nodeEnd s j) (omega arith) (inside j j6) put-in put-long
+    copy-to = put-to j j6 put-in in-long
 
     -- the other nodes' stretches are as they were
     pub copy-other : (k : ℕ) → (k ≡ j → ⊥) → node s (copied s memory n i b j c) k ≡ node s memory k
     unfolding copied
-    copy-other k ne =
-        ⊎-elim
-        (λ le. part-before memory (nodeAt s j) (nodeEnd s j) (omega arith) (inside j j6) put-in put-long (nodeAt s k) (nodeEnd s k) (omega arith) (before-node k j (omega arith)))
-        (λ lt. part-after memory (nodeAt s j) (nodeEnd s j) (omega arith) (inside j j6) put-in put-long (nodeAt s k) (nodeEnd s k) (before-node j k lt))
-        (le-or-lt k j)
+    copy-other k ne = put-away j j6 put-in in-long k ne
 
     -- as rows of the memory
     pub copy-rows : row (memoryWidth s) (copied s memory n i b j c) ≡ put (row (memoryWidth s) memory) (9 + j) (written s (node s memory j) c (letter s (node s memory i) n b))
     unfolding copied
     copy-rows =
         ap₂ (λ (a w : ℕ). row (memoryWidth s) (splice memory a (a + w) put-in)) (sym (start-stretch s j)) (sym (width-stretch s j))
-        ∙ row-splice (memoryWidth s) memory (9 + j) put-in (rw (start-stretch s j, width-stretch s j) (inside j j6)) (rw (width-stretch s j) (put-long ∙ omega arith))
+        ∙ row-splice (memoryWidth s) memory (9 + j) put-in (rw (start-stretch s j, width-stretch s j) (inside j j6)) (rw (width-stretch s j) in-long)
 
     -- THE COPY IS THE LETTER
     pub copy-read : Lies s (node s memory i) n b → Chained s (node s memory j) (needs s n) c → letter s (node s (copied s memory n i b j c) j) n c ≡ letter s (node s memory i) n b

@@ -5,7 +5,7 @@ use Prim.Native.Nat.{ℕ, zero, suc, _+_, _-_, _*_, _/_, _%_, _≤_, _<_, min}
 use native.Mathlib.Nat.{suc-mul, zero-mul, add-div-right, mod-lt, div-eq-of-lt, mod-eq-of-lt}
 use native.Mathlib.Omega.{arith}
 use lib.ListN.{length, getD, take, drop, length-append, length-take, length-drop, drop-of-length-le}
-use lib.Seq.{sets, sets-eq, length-sets, take-all, take-at, drop-drop, drop-append-le, drop-append-add, length-take-le}
+use lib.Seq.{sets, sets-eq, length-sets, take-all, take-at, drop-at, drop-drop, drop-append-le, drop-append-add}
 use borrow.Rule.Slice.PartMut.{putMid, postOf, post-is}
 use Rattle.words.specs.Words.{part, splice}
 use Rattle.words.proofs.Parts.{back, length-part, take-least, drop-take, take-join, drop-front}
@@ -21,8 +21,8 @@ use Rattle.reading.specs.Read.{linkFrom, stepAt}
 use Rattle.reading.specs.declared.Step.{Step}
 use Rattle.reading.specs.declared.Step.the-variants.{Words, End}
 use Rattle.reading.proofs.Laws.{step-words, step-end}
-use Rattle.letters.specs.Letter.{onto, word, letter, piece, laid, written, copied}
-use Rattle.letters.specs.Asked.{Lies, Covers, Copies}
+use Rattle.letters.specs.Letter.{onto, word, letter, piece, laid}
+use Rattle.letters.specs.Asked.{Lies, Covers}
 use Rattle.letters.proofs.Rows.{block-chain, needs-enough}
 
 -- ---- one block
@@ -39,7 +39,7 @@ module _ (s : Settings) (node : List ℕ) (st : Stretch s node) (b : ℕ) (low :
 
   -- a piece of it
   module _ (at : ℕ) (inside : at < s .b - 1) (len n a : ℕ) (en : n ≡ min len (s .b - 1 - at)) (ea : a ≡ blockAt s b + at) where
-    piece-is : piece s node b at len ≡ part node a (a + n)
+    pub piece-is : piece s node b at len ≡ part node a (a + n)
     unfolding piece
     piece-is =
         let d : linkAt s b - blockAt s b ≡ s .b - 1 = omega arith in
@@ -123,6 +123,23 @@ module _ (s : Settings) (node : List ℕ) (owed b : ℕ) (ws : Walks s node owed
       ap (λ (l : List ℕ). take len (drop at l)) text-step
       ∙ ap (take len) (drop-append-le at (part node (blockAt s b) (linkAt s b)) rest (omega arith))
       ∙ take-join len (drop at (part node (blockAt s b) (linkAt s b))) rest
+
+  -- the front that the first block carries, and the others' words behind it
+  pub front-words : (len : ℕ) → take (s .b - 1) (take len (text s node (chain s node owed b))) ≡ piece s node b 0 len
+  unfolding piece
+  front-words len =
+      let z : min (s .b - 1) len ≡ min len (s .b - 1) = omega arith in
+      take-least (s .b - 1) len (text s node (chain s node owed b))
+      ∙ ap (λ (k : ℕ). take k (text s node (chain s node owed b))) z
+      ∙ sym (take-least len (s .b - 1) (text s node (chain s node owed b)))
+      ∙ ap (take len) (ap (take (s .b - 1)) text-step ∙ take-at (part node (blockAt s b) (linkAt s b)) rest (s .b - 1) own-size)
+
+  pub rest-words : (len k : ℕ) → k ≡ min len (s .b - 1)
+      → drop (s .b - 1) (take len (text s node (chain s node owed b))) ≡ take (len - k) (text s node (chain s node (owed - 1) (link s node b)))
+  rest-words len k e =
+      let z : len - (s .b - 1) ≡ len - k = omega arith in
+      drop-take (s .b - 1) len (text s node (chain s node owed b))
+      ∙ ap₂ (λ (i : ℕ) (l : List ℕ). take i l) z (ap (drop (s .b - 1)) text-step ∙ drop-at (part node (blockAt s b) (linkAt s b)) rest (s .b - 1) own-size)
 
   pub piece-most : (at len : ℕ) → length (piece s node b at len) ≤ len
   unfolding piece
@@ -299,33 +316,6 @@ module _ (s : Settings) (node : List ℕ) (owed b : ℕ) (walk : Walks s node ow
         ∙ ap₂ (λ (m : List ℕ) (x : ℕ). laid s m (owed - 1) x (drop (s .b - 1) ws)) em el
         ∙ sym (ap (λ (i : ℕ). laid s node i b ws) (down owed some))
 
--- ---- a copy from node i to node j
-module _ (s : Settings) (memory : List ℕ) (size : ℕ) (es : size ≡ nodeSize s) where
-  node-part : (i a : ℕ) → a ≡ nodeAt s i → part memory a (a + size) ≡ node s memory i
-  node-part i a ea = ap₂ (λ (k z : ℕ). part memory k (k + z)) ea es
-
-  pub lies-part : (i a n n′ b : ℕ) → a ≡ nodeAt s i → n′ ≡ n → Lies s (node s memory i) n b → Lies s (part memory a (a + size)) n′ b
-  lies-part i a n n′ b ea en l = rw (node-part i a ea, en) l
-
-  pub side-is : (n i b a : ℕ) (side : List ℕ) → a ≡ nodeAt s i → side ≡ drop 0 (letter s (part memory a (a + size)) (0 + n) b) → side ≡ letter s (node s memory i) n b
-  side-is n i b a side ea er =
-      let z : 0 + n ≡ n = omega arith in er ∙ ap₂ (λ (m : List ℕ) (k : ℕ). letter s m k b) (node-part i a ea) z
-
-  pub copied-is : (n i b j c a f : ℕ) (side p : List ℕ) → a ≡ nodeAt s i → f ≡ nodeAt s j → side ≡ drop 0 (letter s (part memory a (a + size)) (0 + n) b)
-      → p ≡ written s (part memory f (f + size)) c side → putMid f (f + size - f) memory p ≡ copied s memory n i b j c
-  unfolding copied
-  copied-is n i b j c a f side p ea ef er ew =
-      let l : side ≡ letter s (node s memory i) n b = side-is n i b a side ea er in
-      back f (f + size) memory (omega arith) (ew ∙ ap₂ (λ (m ws : List ℕ). written s m c ws) (node-part j f ef) l)
-      ∙ ap₂ (λ (k z : ℕ). splice memory k (k + z) (written s (node s memory j) c (letter s (node s memory i) n b))) ef es
-
--- a side row that has room for n words
-module _ (s : Settings) (memory : List ℕ) (n i b j c : ℕ) (side : List ℕ) (pre : Copies s memory n i b j c) (long : n ≤ length side) where
-  side-long : length (take (n - 0) side) ≡ n
-  side-long = length-take-le (n - 0) side (omega arith) ∙ omega arith
-
-  pub copies-side : Copies s memory (length (take (n - 0) side)) i b j c
-  copies-side = rw side-long pre
-
-  pub copied-side : (l : List ℕ) → l ≡ copied s memory (length (take (n - 0) side)) i b j c → l ≡ copied s memory n i b j c
-  copied-side l e = e ∙ ap (λ (k : ℕ). copied s memory k i b j c) side-long
+-- ---- a node's stretch, by its place and size as the code computes them
+pub node-part : (s : Settings) (memory : List ℕ) (i : ℕ) {a size : ℕ} → a ≡ nodeAt s i → size ≡ nodeSize s → part memory a (a + size) ≡ node s memory i
+node-part s memory i ea es = ap₂ (λ (k z : ℕ). part memory k (k + z)) ea es

@@ -4,6 +4,7 @@ use Prim.Native.Nat.{ℕ, _+_, _-_, _%_, _≤_, _<_}
 use native.Mathlib.Nat.{mod-eq-of-lt, mod-eq-sub-mod}
 use native.Mathlib.Omega.{arith}
 use Rattle.queues.specs.declared.Kind.{Kind}
+use Rattle.queues.specs.Queue.{slotFrom}
 use Rattle.queues.specs.Moves.{IsSlot}
 
 module _ (k : Kind) (q first i : ℕ) where
@@ -14,3 +15,10 @@ module _ (k : Kind) (q first i : ℕ) where
   slot-over h f g =
       let e : (first + i) % k .slots ≡ first + i - k .slots = mod-eq-sub-mod h ∙ mod-eq-of-lt (omega arith) in
       record { is = ap (λ (n : ℕ). q + (k .head + n)) (sym e); low = omega arith; high = omega arith }
+
+  -- how far a slot's word stands behind the words before the slots
+  pub slot-past : (r : ℕ) → r ≡ slotFrom k q first i → r - (q + k .head) ≡ (first + i) % k .slots
+  slot-past r e = ap (λ (n : ℕ). n - (q + k .head)) e ∙ past ((first + i) % k .slots)
+    where
+      past : (n : ℕ) → q + (k .head + n) - (q + k .head) ≡ n
+      past n = omega arith

@@ -119,7 +119,7 @@ pub fn append(node: &mut [u32], k: Kind, q: usize, item: u32) -> Appended
     }
 }
 
-// Drops the first item, and answers it.
+// Drops the first item, and answers it; the start moves on to the second slot, which is found by a test.
 pub fn drop_first(node: &mut [u32], k: Kind, q: usize) -> u32
     requires { ⌜ Queue k (now node) q ⌝ }
     requires { ⌜ 0 < items k (now node) q ⌝ }
@@ -129,7 +129,8 @@ pub fn drop_first(node: &mut [u32], k: Kind, q: usize) -> u32
     let count = node[q + 1];
     let at = slot_at(k, q, first, 0);
     let item = node[at];
-    let next = (first + 1) % k.slots;
+    let second = slot_at(k, q, first, 1);
+    let next = second - (q + k.head);
     node[at] = 0;
     node[q] = next as u32;
     node[q + 1] = count - 1;

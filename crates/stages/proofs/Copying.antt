@@ -194,7 +194,7 @@ module _ (s : Settings) (m : List ℕ) (j i : ℕ) (w : Waits s m j i 1) where
                 (rw (← en) (take-chained s (node s m j) stj (stood-free s m j atRest g j (g .postman)) n some room)))
 
             pub first-copies : Copies s m₁ t i x j c
-            first-copies = record { sized = sized₁; source = w .there; destination = g .postman; from = rw kept lies; to = to }
+            first-copies = record { sized = sized₁; source = w .there; destination = g .postman; apart = apart; from = rw kept lies; to = to }
 
             pub first-is : {m₂ : List ℕ} → m₂ ≡ copied s m₁ t i x j c → did m₂ Done ≡ copiedIn s j m i
             unfolding copiedIn
