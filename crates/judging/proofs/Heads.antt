@@ -1,11 +1,13 @@
 -- A header by what is wrong with it, joined: what the tests of it decide. Assumes nothing.
-use mathlib.Core.Path.{_≡_, sym, ap₂, _∙_}
+use mathlib.Core.Path.{_≡_, sym, ap, ap₂, _∙_}
 use mathlib.Core.Logic.{⊎-elim}
 use mathlib.Core.Bool.{Bool, true, false, _&&_}
 use mathlib.Core.List.{List}
-use Prim.Native.Nat.{ℕ, _≤_, _<_}
+use Prim.Native.Nat.{ℕ, _/_, _%_, _≤_, _<_}
+use native.Mathlib.Nat.{mod-lt, div-add-mod, div-eq-of-lt, mod-eq-of-lt}
 use native.Mathlib.Omega.{arith}
 use lib.Dec.{eqb}
+use borrow.Author.Tests.{ne-eqb}
 use lib.Bits.{bitOr, bitXor, or-lt}
 use Rattle.words.proofs.Bits.{or-zero, or-least, xor-zero}
 use Rattle.words.proofs.Lists.{and-false, le-or-lt}
@@ -25,7 +27,7 @@ module _ (t : List ℕ) (right : rightTable t ≡ true) (post : Bool) (i k owner
   no-task : isOn t task to ≡ false → false ≡ isOn t source from && (isOn t task to && isAimed post i k owner from task to)
   no-task e = rw e (sym (and-false (isOn t source from)))
 
-  pub near-over : 255 < bitOr source task → false ≡ isOn t source from && (isOn t task to && isAimed post i k owner from task to)
+  near-over : 255 < bitOr source task → false ≡ isOn t source from && (isOn t task to && isAimed post i k owner from task to)
   near-over h =
       ⊎-elim
       (λ a. no-source (sym (on-over t source from a)))
@@ -35,7 +37,7 @@ module _ (t : List ℕ) (right : rightTable t ≡ true) (post : Bool) (i k owner
       (le-or-lt 256 task))
       (le-or-lt 256 source)
 
-  pub near-far : 7 < bitOr from to → false ≡ isOn t source from && (isOn t task to && isAimed post i k owner from task to)
+  near-far : 7 < bitOr from to → false ≡ isOn t source from && (isOn t task to && isAimed post i k owner from task to)
   near-far h =
       ⊎-elim
       (λ a. no-source (sym (on-far t source from right (omega arith))))
@@ -60,16 +62,35 @@ module _ (t : List ℕ) (right : rightTable t ≡ true) (post : Bool) (i k owner
         e
         ∙ and-assoc (isOn t source from) (isOn t task to) aim
 
-    pub near-post : post ≡ true
-        → eqb (bitOr (bitOr (bitXor (nodeOf t source) from) (bitXor (nodeOf t task) to)) (bitOr (bitXor from i) (bitXor to k))) 0
-        ≡ isOn t source from && (isOn t task to && isAimed post i k owner from task to)
-    unfolding isAimed isFromTo
-    near-post y =
-        off (bitOr (bitXor from i) (bitXor to k)) (isAimed post i k owner from task to)
-        (or-zero (bitXor from i) (bitXor to k) ∙ ap₂ _&&_ (xor-zero from i) (xor-zero to k) ∙ rw y)
+  -- what is wrong, joined: tasks and nodes that are too high, tasks that are not on their nodes, and what the place asks
+  pub near-joined : (aim : ℕ) → eqb aim 0 ≡ isAimed post i k owner from task to
+      → eqb (bitOr (bitOr (bitOr source task / 256) (bitOr from to / 8)) (bitOr (bitOr (bitXor (nodeOf t (source % 256)) from) (bitXor (nodeOf t (task % 256)) to)) aim)) 0
+      ≡ isOn t source from && (isOn t task to && isAimed post i k owner from task to)
+  near-joined aim e =
+      let high : ℕ = bitOr (bitOr source task / 256) (bitOr from to / 8) in
+      let rest : ℕ = bitOr (bitOr (bitXor (nodeOf t (source % 256)) from) (bitXor (nodeOf t (task % 256)) to)) aim in
+      let u = or-least (bitOr source task / 256) (bitOr from to / 8) in
+      let v = or-least high rest in
+      ⊎-elim
+      (λ a. ne-eqb (bitOr high rest) 0 (λ z. omega (arith, div-add-mod (bitOr source task) 256, mod-lt (bitOr source task) {m = 256} (omega arith))) ∙ near-over a)
+      (λ a. ⊎-elim
+      (λ b. ne-eqb (bitOr high rest) 0 (λ z. omega (arith, div-add-mod (bitOr from to) 8, mod-lt (bitOr from to) {m = 8} (omega arith))) ∙ near-far b)
+      (λ b.
+      let w = or-least source task in
+      let d : bitOr source task / 256 ≡ 0 = div-eq-of-lt (omega arith) in
+      let f : bitOr from to / 8 ≡ 0 = div-eq-of-lt (omega arith) in
+      let g : source % 256 ≡ source = mod-eq-of-lt (omega arith) in
+      let h : task % 256 ≡ task = mod-eq-of-lt (omega arith) in
+      rw (d, f, g, h) (or-zero (bitOr 0 0) (bitOr (bitOr (bitXor (nodeOf t source) from) (bitXor (nodeOf t task) to)) aim)
+      ∙ ap (λ (c : Bool). c && eqb (bitOr (bitOr (bitXor (nodeOf t source) from) (bitXor (nodeOf t task) to)) aim) 0) (or-zero 0 0)
+      ∙ off (omega arith) (omega arith) aim (isAimed post i k owner from task to) e))
+      (le-or-lt 8 (bitOr from to)))
+      (le-or-lt 256 (bitOr source task))
 
-    pub near-seat : post ≡ false
-        → eqb (bitOr (bitOr (bitXor (nodeOf t source) from) (bitXor (nodeOf t task) to)) (bitXor task owner)) 0
-        ≡ isOn t source from && (isOn t task to && isAimed post i k owner from task to)
-    unfolding isAimed
-    near-seat y = off (bitXor task owner) (isAimed post i k owner from task to) (xor-zero task owner ∙ rw y)
+  pub aim-post : (aim : ℕ) → post ≡ true → aim ≡ bitOr (bitXor from i) (bitXor to k) → eqb aim 0 ≡ isAimed post i k owner from task to
+  unfolding isAimed isFromTo
+  aim-post aim y e = rw e (or-zero (bitXor from i) (bitXor to k) ∙ ap₂ _&&_ (xor-zero from i) (xor-zero to k) ∙ rw y)
+
+  pub aim-seat : (aim : ℕ) → post ≡ false → aim ≡ bitXor task owner → eqb aim 0 ≡ isAimed post i k owner from task to
+  unfolding isAimed
+  aim-seat aim y e = rw e (xor-zero task owner ∙ rw y)

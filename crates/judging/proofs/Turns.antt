@@ -2,7 +2,8 @@
 use mathlib.Core.Path.{_≡_, refl, sym, ap, _∙_}
 use mathlib.Core.Bool.{Bool, true, false, _&&_, cond, false≢true}
 use mathlib.Core.List.{List, [], _∷_, _++_}
-use Prim.Native.Nat.{ℕ, _+_, _≤_, _<_}
+use Prim.Native.Nat.{ℕ, suc, _+_, _%_, _≤_, _<_}
+use native.Mathlib.Nat.{mod-lt, mod-eq-of-lt, mod-self, suc-mod}
 use native.Mathlib.Numerals.{add-one}
 use native.Mathlib.Omega.{arith}
 use lib.Dec.{eqb}
@@ -11,6 +12,8 @@ use lib.Seq.{drop-cons}
 use borrow.Author.Tests.{eq-eqb, ne-eqb}
 use Rattle.words.proofs.Lists.{same?}
 use Rattle.settings.specs.declared.Settings.{Settings}
+use Rattle.queues.specs.declared.Kind.{Kind}
+use Rattle.queues.specs.Queue.{slotFrom}
 use Rattle.queues.specs.Items.{live, gapFlag}
 use Rattle.queues.proofs.Items.{live-append}
 use Rattle.sound.specs.Blocks.{chains}
@@ -87,3 +90,31 @@ module _ (s : Settings) (l t : List ℕ) (i p : ℕ) (xs : List ℕ) (old : List
             flag = w .flag ∙ ap (λ (c : List ℕ). cond (eqb gap 0) (gapFlag c) 1) rest ∙ rw (eq-eqb x 0 z) (same? gap 0 (λ y q. rw q) (λ y q. rw q));
             small = omega arith;
           }
+
+-- ---- the slots, gone over one after the other and round
+module _ (k : Kind) (q first j : ℕ) (some : 2 ≤ k .slots) where
+  pub slot-inside : slotFrom k q first j < q + (k .head + k .slots)
+  slot-inside = let r = mod-lt (first + j) {m = k .slots} (omega arith) in omega arith
+
+  onward : (first + (j + 1)) % k .slots ≡ suc ((first + j) % k .slots) % k .slots
+  onward = let e : first + (j + 1) ≡ suc (first + j) = omega arith in ap (λ (n : ℕ). n % k .slots) e ∙ suc-mod (first + j) (k .slots)
+
+  pub slot-round : slotFrom k q first j + 1 ≡ q + (k .head + k .slots) → q + k .head ≡ slotFrom k q first (j + 1)
+  slot-round h =
+      let e : suc ((first + j) % k .slots) ≡ k .slots = omega arith in
+      let f : (first + (j + 1)) % k .slots ≡ 0 = onward ∙ ap (λ (n : ℕ). n % k .slots) e ∙ mod-self (k .slots) in
+      omega (arith, f)
+
+  pub slot-next : (slotFrom k q first j + 1 ≡ q + (k .head + k .slots) → ⊥) → slotFrom k q first j + 1 ≡ slotFrom k q first (j + 1)
+  slot-next h =
+      let r = mod-lt (first + j) {m = k .slots} (omega arith) in
+      let f : (first + (j + 1)) % k .slots ≡ suc ((first + j) % k .slots) = onward ∙ mod-eq-of-lt {n = suc ((first + j) % k .slots)} {m = k .slots} (below r) in
+      omega (arith, f)
+    where
+      below : (first + j) % k .slots < k .slots → suc ((first + j) % k .slots) < k .slots
+      below r = same? (suc ((first + j) % k .slots)) (k .slots) (λ e f. absurd (h (omega arith))) (λ e f. omega arith)
+
+pub slot-first : (k : Kind) (q first : ℕ) → first < k .slots → q + (k .head + first) ≡ slotFrom k q first 0
+slot-first k q first h =
+    let e : first + 0 ≡ first = omega arith in
+    ap (λ (n : ℕ). q + (k .head + n)) (sym (ap (λ (n : ℕ). n % k .slots) e ∙ mod-eq-of-lt {n = first} {m = k .slots} h))

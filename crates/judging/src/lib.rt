@@ -5,8 +5,11 @@ use visits::Went;
 ghost use mathlib.Core.Path.{_≡_};
 ghost use mathlib.Core.Bool.{true, false, _&&_};
 ghost use mathlib.Core.List.{[], _∷_};
-ghost use Prim.Native.Nat.{_≤_, _<_};
+ghost use Prim.Native.Nat.{_-_, _≤_, _<_};
+ghost use lib.Dec.{eqb};
 ghost use lib.ListN.{length};
+ghost use Rattle.settings.specs.Range.{InRange};
+ghost use Rattle.layout.specs.Places.{nodes, blockAt};
 ghost use Rattle.tasks.specs.Table.{rightTable};
 ghost use Rattle.queues.specs.Queue.{Placed, Queue, items, contents};
 ghost use Rattle.queues.specs.Items.{live, gapFlag};
@@ -14,13 +17,13 @@ ghost use Rattle.sound.specs.Queues.{inShape};
 ghost use Rattle.sound.specs.Blocks.{chains};
 ghost use Rattle.shapes.specs.Shape.{rightPost, rightSeat};
 ghost use Rattle.visits.specs.Marks.{marked, Linked, Walked};
-ghost use Rattle.visits.specs.Letters.{isOn, lettersRight, Judged, Placing};
+ghost use Rattle.visits.specs.Letters.{isOn, fitsLength, lettersRight, Judged, Placing};
 ghost use Rattle.judging.specs.Aim.{isAimed, Aimed, Headed};
 ghost use Rattle.judging.specs.Told.{Told};
 
-// Whether the four words are a header of bound tasks on their nodes, as the place wants it: what is wrong is joined and then looked at.
+// What is wrong with four words as a header, joined: 0 where they are one of bound tasks on their nodes, as the place wants it.
 // Nodes that are joined to 7 at most are two of the six, or the table has none such.
-fn is_near_head(
+fn astray(
     table: &[u32],
     post: bool,
     i: u32,
@@ -30,25 +33,43 @@ fn is_near_head(
     from: u32,
     task: u32,
     to: u32,
-) -> bool
+) -> u32
     requires { ⌜ rightTable (now table) ≡ true ⌝ }
-    ensures { λ r. ⌜ r ≡ (isOn (now (table .entry)) source from && (isOn (now (table .entry)) task to && isAimed post i k owner from task to)) ⌝ }
+    ensures { λ r. ⌜ eqb r 0 ≡ (isOn (now (table .entry)) source from && (isOn (now (table .entry)) task to && isAimed post i k owner from task to)) ⌝ }
 {
-    let ids = source | task;
-    if 255 < ids {
-        return false;
-    }
-    let ends = from | to;
-    if 7 < ends {
-        return false;
-    }
-    let off = (table[source as usize * 2] ^ from) | (table[task as usize * 2] ^ to);
+    let ids = (source | task) / 256;
+    let ends = (from | to) / 8;
+    let off = (table[(source % 256) as usize * 2] ^ from) | (table[(task % 256) as usize * 2] ^ to);
+    let mut aim = task ^ owner;
     if post {
-        let astray = off | ((from ^ i) | (to ^ k));
-        return astray == 0;
+        aim = (from ^ i) | (to ^ k);
     }
-    let astray = off | (task ^ owner);
-    astray == 0
+    (ids | ends) | (off | aim)
+}
+
+// What is wrong with a length: 0 where a letter of `count` blocks may have n words and needs the blocks. No branch is taken, so that this
+// is joined with the rest.
+fn misfit(s: Settings, count: usize, n: u32) -> u32
+    requires { ⌜ InRange s ⌝ }
+    requires { ⌜ count ≤ 1024 ⌝ }
+    ensures { λ r. ⌜ eqb r 0 ≡ fitsLength s count n ⌝ }
+{
+    let room = s.b - 1;
+    let carried = count * room;
+    let mut odd: u32 = 0;
+    if n < 5 {
+        odd = 1;
+    }
+    if 1024 < n {
+        odd = 1;
+    }
+    if carried < n as usize {
+        odd = 1;
+    }
+    if n as usize + room <= carried {
+        odd = 1;
+    }
+    odd
 }
 
 // The walk from block b on as `visits::follow` makes it, its first two blocks with no call: most letters have no more.
@@ -63,9 +84,12 @@ fn go_far(
 ) -> usize
     requires { ⌜ Linked (now node) before width m ⌝ }
     requires { ⌜ m < length (now marks) ⌝ }
-    requires { ⌜ 1 ≤ b ⌝ }
+    requires { ⌜ (1 ≤ b) × (1 ≤ owed) ⌝ }
     ensures { λ r. ⌜ Walked (now (node .entry)) before width m owed b (now (marks .entry)) r (now (marks .exit)) ⌝ }
 {
+    if m < b as usize {
+        return 0;
+    }
     let first = visits::go_on(node, before, width, m, marks, b, owed);
     let b1 = match first {
         Went::Over(r) => return r,
@@ -80,10 +104,11 @@ fn go_far(
 }
 
 // Whether the letter that block b begins at place p of node i is right and none of its blocks has a mark; marks them. Its blocks have six
-// words or more: the first carries the header.
+// words or more: the first carries the header, right before its other words and its link.
 fn is_right_near(
     node: &[u32],
     s: Settings,
+    before: usize,
     table: &[u32],
     marks: &mut [u8],
     i: u32,
@@ -94,32 +119,30 @@ fn is_right_near(
     b: u32,
 ) -> bool
     requires { ⌜ Headed s (now node) (now table) i p post k owner ⌝ }
+    requires { ⌜ before ≡ blockAt s 1 - 1 ⌝ }
     requires { ⌜ s .m < length (now marks) ⌝ }
     requires { ⌜ 1 ≤ b ⌝ }
     ensures { λ r. ⌜ Judged (lettersRight s (now (node .entry)) (now (table .entry)) i p (now (marks .entry)) (live (b ∷ []))) (marked (now (marks .entry)) (chains s (now (node .entry)) (live (b ∷ [])))) r (now (marks .exit)) ⌝ }
 {
-    let before = layout::block_at(s, 1) - 1;
     let told = go_far(node, before, s.b, s.m, marks, b, s.m);
     if told == 0 {
         return false;
     }
     let count = s.m - (told - 1);
-    let at = layout::block_at(s, b as usize);
-    let long = node[at + 4] as usize;
-    if !visits::fits_length(s, count, long) {
-        return false;
-    }
-    is_near_head(
-        table,
-        post,
-        i,
-        k,
-        owner,
-        node[at],
-        node[at + 1],
-        node[at + 2],
-        node[at + 3],
-    )
+    let at = before + b as usize * s.b - (s.b - 1);
+    let wrong = misfit(s, count, node[at + 4])
+        | astray(
+            table,
+            post,
+            i,
+            k,
+            owner,
+            node[at],
+            node[at + 1],
+            node[at + 2],
+            node[at + 3],
+        );
+    wrong == 0
 }
 
 // The letters of a queue's items, first to last: 2 where one is not right or one of its blocks has a mark, else the gap flag that the items
@@ -130,8 +153,8 @@ fn are_right_items(
     q: usize,
     node: &[u32],
     s: Settings,
+    before: usize,
     table: &[u32],
-    seats: &[u32],
     marks: &mut [u8],
     i: usize,
     p: usize,
@@ -140,8 +163,61 @@ fn are_right_items(
     owner: u32,
 ) -> u32
     requires { ⌜ Queue kind (now queue) q ⌝ }
+    requires { ⌜ Headed s (now node) (now table) i p post k owner ⌝ }
+    requires { ⌜ i < nodes ⌝ }
+    requires { ⌜ before ≡ blockAt s 1 - 1 ⌝ }
+    requires { ⌜ s .m < length (now marks) ⌝ }
+    ensures { λ r. ⌜ Told (lettersRight s (now (node .entry)) (now (table .entry)) i p (now (marks .entry)) (live (contents kind (now (queue .entry)) q))) (gapFlag (contents kind (now (queue .entry)) q)) (marked (now (marks .entry)) (chains s (now (node .entry)) (live (contents kind (now (queue .entry)) q)))) r (now (marks .exit)) ⌝ }
+{
+    let count = queue[q + 1] as usize;
+    let mut at = q + (kind.head + queue[q] as usize);
+    let mut gap: u32 = 0;
+    let mut j: usize = 0;
+    while j < count {
+        let b = queue[at];
+        if b == 0 {
+            gap = 1;
+        } else {
+            if !is_right_near(
+                node,
+                s,
+                before,
+                table,
+                marks,
+                i as u32,
+                p,
+                post,
+                k,
+                owner,
+                b,
+            ) {
+                return 2;
+            }
+        }
+        at += 1;
+        if at == q + (kind.head + kind.slots) {
+            at = q + kind.head;
+        }
+        j += 1;
+    }
+    gap
+}
+
+// The same where a block has four or five words, and the header goes on in the next.
+fn are_right_narrow(
+    queue: &[u32],
+    kind: Kind,
+    q: usize,
+    node: &[u32],
+    s: Settings,
+    table: &[u32],
+    seats: &[u32],
+    marks: &mut [u8],
+    i: usize,
+    p: usize,
+) -> u32
+    requires { ⌜ Queue kind (now queue) q ⌝ }
     requires { ⌜ Placing s (now node) (now table) (now seats) i p ⌝ }
-    requires { ⌜ Aimed (now table) i p post k owner ⌝ }
     requires { ⌜ s .m < length (now marks) ⌝ }
     ensures { λ r. ⌜ Told (lettersRight s (now (node .entry)) (now (table .entry)) i p (now (marks .entry)) (live (contents kind (now (queue .entry)) q))) (gapFlag (contents kind (now (queue .entry)) q)) (marked (now (marks .entry)) (chains s (now (node .entry)) (live (contents kind (now (queue .entry)) q)))) r (now (marks .exit)) ⌝ }
 {
@@ -155,14 +231,8 @@ fn are_right_items(
         if b == 0 {
             gap = 1;
         } else {
-            if 5 < s.b {
-                if !is_right_near(node, s, table, marks, i as u32, p, post, k, owner, b) {
-                    return 2;
-                }
-            } else {
-                if !visits::is_right_letter(node, s, table, seats, marks, i, p, b) {
-                    return 2;
-                }
+            if !visits::is_right_letter(node, s, table, seats, marks, i, p, b) {
+                return 2;
             }
         }
         j += 1;
@@ -177,6 +247,7 @@ fn is_filled(
     q: usize,
     node: &[u32],
     s: Settings,
+    before: usize,
     table: &[u32],
     seats: &[u32],
     marks: &mut [u8],
@@ -189,11 +260,15 @@ fn is_filled(
     requires { ⌜ Placed kind (now queue) q ⌝ }
     requires { ⌜ Placing s (now node) (now table) (now seats) i p ⌝ }
     requires { ⌜ Aimed (now table) i p post k owner ⌝ }
+    requires { ⌜ before ≡ blockAt s 1 - 1 ⌝ }
     requires { ⌜ s .m < length (now marks) ⌝ }
     ensures { λ r. ⌜ Told (inShape kind (now (queue .entry)) q && lettersRight s (now (node .entry)) (now (table .entry)) i p (now (marks .entry)) (live (contents kind (now (queue .entry)) q))) (gapFlag (contents kind (now (queue .entry)) q)) (marked (now (marks .entry)) (chains s (now (node .entry)) (live (contents kind (now (queue .entry)) q)))) r (now (marks .exit)) ⌝ }
 {
     if !shapes::is_in_shape(queue, kind, q) {
         return 2;
+    }
+    if s.b <= 5 {
+        return are_right_narrow(queue, kind, q, node, s, table, seats, marks, i, p);
     }
     are_right_items(
         queue,
@@ -201,8 +276,8 @@ fn is_filled(
         q,
         node,
         s,
+        before,
         table,
-        seats,
         marks,
         i,
         p,
@@ -219,6 +294,7 @@ pub fn is_filled_post(
     q: usize,
     node: &[u32],
     s: Settings,
+    before: usize,
     table: &[u32],
     seats: &[u32],
     marks: &mut [u8],
@@ -229,6 +305,7 @@ pub fn is_filled_post(
     requires { ⌜ Placed kind (now queue) q ⌝ }
     requires { ⌜ Placing s (now node) (now table) (now seats) i p ⌝ }
     requires { ⌜ Aimed (now table) i p true k 0 ⌝ }
+    requires { ⌜ before ≡ blockAt s 1 - 1 ⌝ }
     requires { ⌜ s .m < length (now marks) ⌝ }
     ensures { λ r. ⌜ Judged (rightPost kind (now (queue .entry)) q (s .m) false && lettersRight s (now (node .entry)) (now (table .entry)) i p (now (marks .entry)) (live (contents kind (now (queue .entry)) q))) (marked (now (marks .entry)) (chains s (now (node .entry)) (live (contents kind (now (queue .entry)) q)))) r (now (marks .exit)) ⌝ }
 {
@@ -238,6 +315,7 @@ pub fn is_filled_post(
         q,
         node,
         s,
+        before,
         table,
         seats,
         marks,
@@ -252,10 +330,12 @@ pub fn is_filled_post(
 
 // Whether a task queue that has items is right, and so are its letters; marks their blocks. `task`: the task that it is bound to, 0 for none.
 pub fn is_filled_seat(
-    node: &[u32],
+    queue: &[u32],
     kind: Kind,
     q: usize,
+    node: &[u32],
     s: Settings,
+    before: usize,
     table: &[u32],
     seats: &[u32],
     marks: &mut [u8],
@@ -263,21 +343,23 @@ pub fn is_filled_seat(
     p: usize,
     task: u32,
 ) -> bool
-    requires { ⌜ (Placed kind (now node) q) × (3 ≤ kind .head) × (1 ≤ items kind (now node) q) ⌝ }
+    requires { ⌜ (Placed kind (now queue) q) × (3 ≤ kind .head) × (1 ≤ items kind (now queue) q) ⌝ }
     requires { ⌜ Placing s (now node) (now table) (now seats) i p ⌝ }
     requires { ⌜ Aimed (now table) i p false 0 task ⌝ }
+    requires { ⌜ before ≡ blockAt s 1 - 1 ⌝ }
     requires { ⌜ s .m < length (now marks) ⌝ }
-    ensures { λ r. ⌜ Judged (rightSeat kind (now (node .entry)) q (s .m) task && lettersRight s (now (node .entry)) (now (table .entry)) i p (now (marks .entry)) (live (contents kind (now (node .entry)) q))) (marked (now (marks .entry)) (chains s (now (node .entry)) (live (contents kind (now (node .entry)) q)))) r (now (marks .exit)) ⌝ }
+    ensures { λ r. ⌜ Judged (rightSeat kind (now (queue .entry)) q (s .m) task && lettersRight s (now (node .entry)) (now (table .entry)) i p (now (marks .entry)) (live (contents kind (now (queue .entry)) q))) (marked (now (marks .entry)) (chains s (now (node .entry)) (live (contents kind (now (queue .entry)) q)))) r (now (marks .exit)) ⌝ }
 {
     if task == 0 {
         return false;
     }
     let gap = is_filled(
-        node,
+        queue,
         kind,
         q,
         node,
         s,
+        before,
         table,
         seats,
         marks,
@@ -290,8 +372,8 @@ pub fn is_filled_seat(
     if gap == 2 {
         return false;
     }
-    if queues::item(node, kind, q, 0) == 0 {
+    if queues::item(queue, kind, q, 0) == 0 {
         return false;
     }
-    node[q + 2] == gap
+    queue[q + 2] == gap
 }

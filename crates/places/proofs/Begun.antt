@@ -23,7 +23,7 @@ use Rattle.sound.specs.Queues.{inShape, rightSend, rightAck, rightTask}
 use Rattle.sound.specs.Positions.{namesOther, held}
 use Rattle.sound.specs.Blocks.{begun, chains}
 use Rattle.sound.proofs.Given.{live-blocks}
-use Rattle.visits.specs.Marks.{marked}
+use Rattle.visits.specs.Marks.{marked, linksLow}
 use Rattle.visits.specs.Letters.{lettersRight, Judged, Placing}
 use Rattle.visits.proofs.Judge.{right-none, marks-none}
 use Rattle.places.specs.Given.{standsRight, Lent, queueRight}
@@ -32,9 +32,9 @@ module _ (s : Settings) (memory l t row : List ℕ) (i : ℕ) (g : Lent s memory
   pub lent-stretch : Stretch s l
   lent-stretch = rw (g .stretch) (node-stretch s memory (g .looked .sized) i (g .small))
 
-  pub lent-placing : (p : ℕ) → p < 77 → Placing s l t row i p
-  lent-placing p h =
-      record { stretch = lent-stretch; table = rw (g .table) (g .looked .table); seats = g .seats; node = g .small; place = h }
+  pub lent-placing : linksLow s l ≡ true → (p : ℕ) → p < 77 → Placing s l t row i p
+  lent-placing low p h =
+      record { stretch = lent-stretch; links = low; table = rw (g .table) (g .looked .table); seats = g .seats; node = g .small; place = h }
 
   -- ---- the hand
   begun-hand : begun s memory i 0 ≡ held s memory i

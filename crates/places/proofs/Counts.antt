@@ -5,14 +5,14 @@ use mathlib.Core.List.{List, [], _∷_}
 use Prim.Native.Nat.{ℕ, zero, suc, _+_, _≤_, _<_}
 use native.Mathlib.Numerals.{add-one}
 use native.Mathlib.Omega.{arith}
-use lib.Dec.{eqb}
+use lib.Dec.{eqb, leb}
 use lib.ListN.{length, getD, set, length-set}
 use lib.Seq.{getD-set-same, getD-set-other}
-use borrow.Author.Tests.{eq-eqb, eqb-true}
+use borrow.Author.Tests.{eq-eqb, eqb-true, le-leb, leb-true}
 use Rattle.words.specs.Count.{occurs}
 use Rattle.words.specs.Words.{every}
-use Rattle.words.proofs.Lists.{same?, and-true, and-join, and-false}
-use Rattle.sound.proofs.Tests.{and-yes, and-cross}
+use Rattle.words.proofs.Lists.{split, same?, and-true, and-join, and-false}
+use Rattle.sound.proofs.Tests.{and-yes, and-cross, every-step, every-more}
 use Rattle.words.proofs.Count.{hit-self, hit-other}
 use Rattle.visits.specs.Marks.{fresh, marked}
 
@@ -66,3 +66,17 @@ module _ (t : ℕ → Bool) (k : ℕ) (all : Bool) where
   pub all-more : t k ≡ true → all ≡ every k t → all ≡ every (k + 1) t
   unfolding every
   all-more f e = rw (add-one k, f) (e ∙ sym (and-yes (every k t)))
+
+-- ---- the greatest of some numbers, and what holds of each
+module _ (p : ℕ → Bool) (b most x m : ℕ) (so : leb most m ≡ every b p) (this : p b ≡ leb x m) where
+  pub top-more : most < x → leb x m ≡ every (b + 1) p
+  top-more h =
+      split (leb x m)
+      (λ e. e ∙ sym (every-more p b (sym so ∙ le-leb most m (omega (arith, leb-true x m e))) (this ∙ e)))
+      (λ e. e ∙ sym (every-step p b ∙ ap (λ (c : Bool). every b p && c) (this ∙ e) ∙ and-false (every b p)))
+
+  pub top-same : x ≤ most → leb most m ≡ every (b + 1) p
+  top-same h =
+      split (leb most m)
+      (λ e. e ∙ sym (every-more p b (sym so ∙ e) (this ∙ le-leb x m (omega (arith, leb-true most m e)))))
+      (λ e. e ∙ sym (every-step p b ∙ ap (λ (c : Bool). c && p b) (sym so ∙ e)))

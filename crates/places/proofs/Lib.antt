@@ -5,3 +5,6 @@ pub mod Links
 pub mod Once
 pub mod Whole
 pub mod Queues
+pub mod Empties
+pub mod Runs
+pub mod Passing

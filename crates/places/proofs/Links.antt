@@ -18,7 +18,8 @@ use Rattle.sound.specs.Reading.{tableIn}
 use Rattle.sound.specs.Letters.{chainFrom, endsWell, rightLength, rightHeader, rightPlace, wordsFrom, rightLetter}
 use Rattle.sound.specs.Blocks.{chains, begun, standing, visits, eachOnce, rightLetters}
 use Rattle.visits.proofs.Read.{ends-within}
-use Rattle.places.specs.Given.{queueRight, nodeRight, linksLow}
+use Rattle.visits.specs.Marks.{linksLow}
+use Rattle.places.specs.Given.{queueRight, nodeRight}
 
 -- ---- along the chains to all that stands
 module _ (s : Settings) (l t : List ℕ) (i p : ℕ) (P : ℕ → Type 0) (met : (b : ℕ) → endsWell s l b ≡ true → (x : ℕ) → 1 ≤ occurs x (chainFrom s l b) → P x) where

@@ -2,10 +2,10 @@
 use mathlib.Core.Path.{_≡_, refl, sym, ap, ap₂, _∙_}
 use mathlib.Core.Bool.{Bool, true, false, _&&_, false≢true}
 use mathlib.Core.List.{List}
-use Prim.Native.Nat.{ℕ, suc, _-_, _≤_}
+use Prim.Native.Nat.{ℕ, suc, _-_, _≤_, _<_}
 use native.Mathlib.Omega.{arith}
 use lib.Dec.{eqb}
-use lib.ListN.{length, getD, replicate, getD-replicate, List·getD-eq-default}
+use lib.ListN.{length, getD, replicate, length-replicate, getD-replicate, List·getD-eq-default}
 use mathlib.Core.Logic.{⊎-elim}
 use borrow.Author.Tests.{eqb-true}
 use Rattle.words.specs.Words.{every, all}
@@ -58,7 +58,7 @@ module _ (s : Settings) (memory : List ℕ) (i : ℕ) where
   abbrev counted : Bool
   counted = every (s .m) (λ b. eqb (occurs (suc b) (visits s memory i)) 1)
 
-  module _ (zeroes : List ℕ) (blank : Blank zeroes) (small : s .m ≤ 1024) (ends : endsWell s (node s memory i) (getD (node s memory i) firstFreeAt 0) ≡ true) (right : rightLetters s memory i ≡ true) where
+  module _ (zeroes : List ℕ) (blank : Blank (s .m) zeroes) (ends : endsWell s (node s memory i) (getD (node s memory i) firstFreeAt 0) ≡ true) (right : rightLetters s memory i ≡ true) where
     visits-in : (x : ℕ) → 1 ≤ occurs x (visits s memory i) → (1 ≤ x) × (x ≤ s .m)
     visits-in =
         visits-met s memory i (λ x. (1 ≤ x) × (x ≤ s .m))
@@ -98,15 +98,15 @@ module _ (s : Settings) (memory : List ℕ) (i : ℕ) where
         (λ f. split counted (λ e. absurd (false≢true (sym f ∙ once e))) (λ e. rw f e))
 
   -- what the marks decide is the fifth and the sixth rule
-  letters-rule : (zeroes : List ℕ) → Blank zeroes → s .m ≤ 1024 → eachOnce s memory i && rightLetters s memory i
+  letters-rule : (zeroes : List ℕ) → Blank (s .m) zeroes → eachOnce s memory i && rightLetters s memory i
       ≡ freeRight s (node s memory i) zeroes
       && ((rightLetters s memory i && fresh (marked zeroes (chainFrom s (node s memory i) (getD (node s memory i) firstFreeAt 0))) (standing s memory i 77))
       && allMarked (s .m) (marked (marked zeroes (chainFrom s (node s memory i) (getD (node s memory i) firstFreeAt 0))) (standing s memory i 77)))
   unfolding eachOnce freeRight visits
-  letters-rule zeroes blank small =
+  letters-rule zeroes blank =
       split (endsWell s (node s memory i) (getD (node s memory i) firstFreeAt 0))
       (λ e. split (rightLetters s memory i)
-      (λ f. rw (e, f) (and-yes counted ∙ both zeroes blank small e f ∙ regroup))
+      (λ f. rw (e, f) (and-yes counted ∙ both zeroes blank e f ∙ regroup))
       (λ f. rw (e, f) (and-false counted ∙ sym (and-false (fresh zeroes free)))))
       (λ e. rw e)
     where
@@ -117,17 +117,17 @@ module _ (s : Settings) (memory : List ℕ) (i : ℕ) where
           ∙ and-assoc (fresh zeroes free) (fresh (marked zeroes free) (standing s memory i 77)) (allMarked (s .m) (marked (marked zeroes free) (standing s memory i 77)))
 
   -- what the code decides is the three rules
-  pub node-rule : (zeroes : List ℕ) → Blank zeroes → s .m ≤ 1024 → nodeRight s memory i
+  pub node-rule : (zeroes : List ℕ) → Blank (s .m) zeroes → nodeRight s memory i
       ≡ freeRight s (node s memory i) zeroes
       && (placesRight s memory i (marked zeroes (chainFrom s (node s memory i) (getD (node s memory i) firstFreeAt 0)))
       && allMarked (s .m) (marked (marked zeroes (chainFrom s (node s memory i) (getD (node s memory i) firstFreeAt 0))) (standing s memory i 77)))
   unfolding nodeRight placesRight rightLetters
-  node-rule zeroes blank small =
+  node-rule zeroes blank =
       let f : Bool = freeRight s (node s memory i) zeroes in
       let h : Bool = fresh (marked zeroes free) (standing s memory i 77) in
       let e : Bool = allMarked (s .m) (marked (marked zeroes free) (standing s memory i 77)) in
       let letters : ℕ → Bool = λ p. all (rightLetter s (node s memory i) (tableIn memory) i p) (begun s memory i p) in
-      ap (λ (b : Bool). every 77 (queueRight s memory i) && b) (letters-rule zeroes blank small)
+      ap (λ (b : Bool). every 77 (queueRight s memory i) && b) (letters-rule zeroes blank)
       ∙ inwards (every 77 (queueRight s memory i)) f (every 77 letters) h e
       ∙ ap (λ (b : Bool). f && ((b && h) && e)) (sym (every-and (queueRight s memory i) letters 77))
     where
@@ -136,12 +136,12 @@ module _ (s : Settings) (memory : List ℕ) (i : ℕ) where
       inwards false f r h e = sym (and-false f)
 
 -- ---- by the tests on the way
-module _ (s : Settings) (memory l t row : List ℕ) (i : ℕ) (g : Lent s memory l t row i) (zeroes : List ℕ) (blank : Blank zeroes) where
+module _ (s : Settings) (memory l t row : List ℕ) (i : ℕ) (g : Lent s memory l t row i) (zeroes : List ℕ) (blank : Blank (s .m) zeroes) where
   rule : nodeRight s memory i
       ≡ freeRight s l zeroes
       && (placesRight s memory i (marked zeroes (chainFrom s l (getD l firstFreeAt 0)))
       && allMarked (s .m) (marked (marked zeroes (chainFrom s l (getD l firstFreeAt 0))) (standing s memory i 77)))
-  rule = rw (g .stretch) (node-rule s memory i zeroes blank (g .looked .sized .range .m .high))
+  rule = rw (g .stretch) (node-rule s memory i zeroes blank)
 
   pub free-no : freeRight s l zeroes ≡ false → false ≡ nodeRight s memory i
   free-no f = sym (rule ∙ rw f)
@@ -156,10 +156,11 @@ module _ (s : Settings) (memory l t row : List ℕ) (i : ℕ) (g : Lent s memory
     pub node-is : placesRight s memory i mid ≡ true → (new : List ℕ) → new ≡ marked mid (standing s memory i 77) → (r : Bool) → r ≡ allMarked (s .m) new → r ≡ nodeRight s memory i
     node-is h new d r q = q ∙ ap (allMarked (s .m)) d ∙ sym (rest ∙ rw h)
 
-pub blank-start : Blank (replicate 1025 0)
-blank-start =
-    let z : List ℕ = replicate 1025 0 in
+pub blank-start : (m n : ℕ) → m < n → Blank m (replicate n 0)
+blank-start m n h =
+    let z : List ℕ = replicate n 0 in
+    let e : length z ≡ n = length-replicate n 0 in
     record {
-      long = refl;
-      none = λ y. ⊎-elim (λ h. List·getD-eq-default z 0 h) (λ h. getD-replicate 1025 y 0 0 h) (le-or-lt 1025 y);
+      long = rw e h;
+      none = λ y. ⊎-elim (λ k. List·getD-eq-default z 0 (rw e k)) (λ k. getD-replicate n y 0 0 k) (le-or-lt n y);
     }

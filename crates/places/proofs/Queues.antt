@@ -3,31 +3,31 @@ use mathlib.Core.Path.{_≡_, refl, sym, ap, _∙_}
 use mathlib.Core.Bool.{Bool, true, false, _&&_, false≢true}
 use mathlib.Core.List.{List, []}
 use Prim.Native.Nat.{ℕ, _+_, _≤_, _<_}
-use native.Mathlib.Nat.{add-mul}
 use native.Mathlib.Omega.{arith}
 use lib.Dec.{eqb}
 use lib.ListN.{getD}
-use borrow.Author.Tests.{eqb-true}
+use borrow.Author.Tests.{eq-eqb, ne-eqb, eqb-true}
 use Rattle.words.proofs.Lists.{split, same?}
 use Rattle.settings.specs.declared.Settings.{Settings}
-use Rattle.layout.specs.Places.{node, sendAt, ackAt, taskAt, gapWord}
+use Rattle.layout.specs.Places.{node, ackAt}
 use Rattle.layout.specs.Asked.{Stretch}
 use Rattle.letters.proofs.Copies.{node-stretch}
 use Rattle.queues.specs.declared.Kind.{Kind}
-use Rattle.queues.specs.Queue.{sendKind, ackKind, taskKind, items, contents}
+use Rattle.queues.specs.Queue.{ackKind, items, contents}
 use Rattle.queues.specs.Items.{live}
 use Rattle.tasks.specs.Seat.{seatAt}
-use Rattle.sound.specs.Queues.{taskOf, inShape}
+use Rattle.sound.specs.Queues.{inShape}
 use Rattle.sound.specs.Blocks.{chains, begun}
+use Rattle.sound.proofs.Tests.{no-first}
 use Rattle.shapes.specs.Shape.{rightPost, rightSeat}
-use Rattle.shapes.proofs.Rule.{post-send, post-ack, seat-task}
-use Rattle.shapes.proofs.Steps.{post-empty, post-own, seat-flagged, seat-empty}
+use Rattle.shapes.proofs.Rule.{post-ack}
+use Rattle.shapes.proofs.Steps.{post-empty, post-own}
 use Rattle.visits.specs.Marks.{marked}
 use Rattle.visits.specs.Letters.{lettersRight, Judged}
 use Rattle.judging.specs.Aim.{Aimed}
-use Rattle.judging.proofs.Aims.{aim-task}
 use Rattle.places.specs.Given.{Lent, queueRight}
-use Rattle.places.proofs.Begun.{queue-send, queue-ack, queue-task, send-begun, ack-begun, task-begun, none-live}
+use Rattle.places.specs.Runs.{Stands}
+use Rattle.places.proofs.Begun.{queue-ack, ack-begun, none-live}
 
 -- no items, or some
 pub none : (n : ℕ) (r : Bool) → r ≡ eqb n 0 → r ≡ true → n ≡ 0
@@ -51,12 +51,41 @@ module _ (s : Settings) (memory l t : List ℕ) (i p : ℕ) (k : Kind) (queue : 
       let f : r ≡ false = v .is ∙ rw (e, n) in
       record { is = rw n f; marks = λ w. absurd (false≢true (sym f ∙ w)) })
 
--- the next task queue stands right behind
-pub task-next : (s : Settings) (a k q : ℕ) → q ≡ taskAt s (a + k) → q + (5 + s .t) ≡ taskAt s (a + (k + 1))
-unfolding taskAt
-task-next s a k q e =
-    let d : a + (k + 1) ≡ a + k + 1 = omega arith in
-    rw (e, d) (omega (arith, add-mul (a + k) 1 (5 + s .t)))
+-- ---- a queue with items, by where it stands
+module _ (s : Settings) (memory l t row : List ℕ) (i : ℕ) (k : Kind) (q p j : ℕ) (kind : Bool) (g : Stands s memory l t row i k q p j kind) (marks : List ℕ) where
+  judged : (right : Bool) → right ≡ queueRight s memory i p → (r : Bool) (new : List ℕ)
+      → Judged (right && lettersRight s l t i p marks (live (contents k l q))) (marked marks (chains s l (live (contents k l q)))) r new
+      → Judged (queueRight s memory i p && lettersRight s l t i p marks (begun s memory i p)) (marked marks (chains s l (begun s memory i p))) r new
+  judged right e r new v = place-judged s memory l t i p k l q (g .begins) right e marks r new v
+
+  module _ (y : kind ≡ true) where
+    post-rule : rightPost k l q (s .m) (eqb j i) ≡ queueRight s memory i p
+    post-rule = rw y at (g .rule)
+
+    pub post-aim : Aimed t i p true j 0
+    post-aim = rw y at (g .aim)
+
+    pub own-found : 1 ≤ items k l q → j ≡ i → (new : List ℕ)
+        → Judged (queueRight s memory i p && lettersRight s l t i p marks (begun s memory i p)) (marked marks (chains s l (begun s memory i p))) false new
+    own-found n e new =
+        let f : queueRight s memory i p ≡ false = sym post-rule ∙ sym (post-own k l q (s .m) (eqb j i) n (eq-eqb j i e)) in
+        record { is = no-first (queueRight s memory i p) _ f; marks = λ w. absurd (false≢true w) }
+
+    pub post-found : (j ≡ i → ⊥) → (r : Bool) (new : List ℕ)
+        → Judged (rightPost k l q (s .m) false && lettersRight s l t i p marks (live (contents k l q))) (marked marks (chains s l (live (contents k l q)))) r new
+        → Judged (queueRight s memory i p && lettersRight s l t i p marks (begun s memory i p)) (marked marks (chains s l (begun s memory i p))) r new
+    post-found n r new v = judged (rightPost k l q (s .m) false) (ap (rightPost k l q (s .m)) (sym (ne-eqb j i n)) ∙ post-rule) r new v
+
+  module _ (y : kind ≡ false) where
+    pub seat-aim : Aimed t i p false 0 (getD row (seatAt i j) 0)
+    seat-aim = rw y at (g .aim)
+
+    pub seat-found : (r : Bool) (new : List ℕ)
+        → Judged (rightSeat k l q (s .m) (getD row (seatAt i j) 0) && lettersRight s l t i p marks (live (contents k l q))) (marked marks (chains s l (live (contents k l q)))) r new
+        → Judged (queueRight s memory i p && lettersRight s l t i p marks (begun s memory i p)) (marked marks (chains s l (begun s memory i p))) r new
+    seat-found r new v =
+        let e : rightSeat k l q (s .m) (getD row (seatAt i j) 0) ≡ queueRight s memory i p = rw y at (g .rule) in
+        judged (rightSeat k l q (s .m) (getD row (seatAt i j) 0)) e r new v
 
 -- ---- a send or acknowledge queue
 module _ (s : Settings) (memory : List ℕ) (i p : ℕ) (k : Kind) (queue : List ℕ) (q : ℕ) (own : Bool) (rule : rightPost k queue q (s .m) own ≡ queueRight s memory i p) where
@@ -69,15 +98,8 @@ module _ (s : Settings) (memory : List ℕ) (i p : ℕ) (k : Kind) (queue : List
   pub other-post : own ≡ false → rightPost k queue q (s .m) false ≡ queueRight s memory i p
   other-post e = ap (rightPost k queue q (s .m)) (sym e) ∙ rule
 
+-- ---- acknowledge queue i on node n
 module _ (s : Settings) (memory l t row : List ℕ) (i : ℕ) (g : Lent s memory l t row i) (n : ℕ) (k : Kind) (q : ℕ) where
-  module _ (h : n < 6) (ek : k ≡ sendKind s) (eq : q ≡ sendAt s n) where
-    pub send-rule : rightPost k l q (s .m) (eqb n i) ≡ queueRight s memory i (1 + n)
-    send-rule = rw (ek, eq, g .stretch) (post-send s memory i n ∙ sym (queue-send s memory i n h))
-
-    pub send-stands : queueRight s memory i (1 + n) ≡ true → live (contents k l q) ≡ begun s memory i (1 + n)
-    send-stands y = rw (ek, eq) (send-begun s memory i n h l (g .stretch) (sym (queue-send s memory i n h) ∙ y))
-
-  -- the queue stands on node n
   pub other-stretch : (m : List ℕ) → n < 6 → m ≡ node s memory n → Stretch s m
   other-stretch m h em = rw em (node-stretch s memory (g .looked .sized) n h)
 
@@ -87,23 +109,3 @@ module _ (s : Settings) (memory l t row : List ℕ) (i : ℕ) (g : Lent s memory
 
     pub ack-stands : queueRight s memory i (7 + n) ≡ true → live (contents k m q) ≡ begun s memory i (7 + n)
     ack-stands y = rw (ek, eq) (ack-begun s memory i n h m em (sym (queue-ack s memory i n h) ∙ y))
-
-  -- place p is that of the queue
-  module _ (p : ℕ) (ep : p ≡ 13 + n) (h : n < 64) (ek : k ≡ taskKind s) (eq : q ≡ taskAt s n) where
-    seat-is : getD row (seatAt i n) 0 ≡ taskOf t i n
-    seat-is = g .seats .is i n (g .small) h
-
-    pub task-aim : Aimed t i p false 0 (getD row (seatAt i n) 0)
-    task-aim = rw ep (aim-task t i n h (getD row (seatAt i n) 0) seat-is)
-
-    pub task-rule : rightSeat k l q (s .m) (getD row (seatAt i n) 0) ≡ queueRight s memory i p
-    task-rule = rw (ek, eq, ep, g .stretch) (seat-task s memory i n (getD row (seatAt i n) 0) (seat-is ∙ ap (λ (ids : List ℕ). taskOf ids i n) (g .table)) ∙ sym (queue-task s memory i n h))
-
-    pub task-stands : queueRight s memory i p ≡ true → live (contents k l q) ≡ begun s memory i p
-    task-stands y = rw (ek, eq, ep) (task-begun s memory i n h l (g .stretch))
-
-    pub flagged-task : items k l q ≡ 0 → (getD l (q + gapWord) 0 ≡ 0 → ⊥) → queueRight s memory i p ≡ false
-    flagged-task z f = sym task-rule ∙ sym (seat-flagged k l q (s .m) (getD row (seatAt i n) 0) z f)
-
-    pub empty-task : items k l q ≡ 0 → getD l (q + gapWord) 0 ≡ 0 → (r : Bool) → r ≡ inShape k l q → r ≡ queueRight s memory i p
-    empty-task z f r e = seat-empty k l q (s .m) (getD row (seatAt i n) 0) z f r e ∙ task-rule

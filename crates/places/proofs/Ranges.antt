@@ -2,7 +2,7 @@
 use mathlib.Core.Path.{_≡_, refl, sym, ap, ap₂, _∙_}
 use mathlib.Core.Bool.{Bool, true, false, _&&_, false≢true}
 use mathlib.Core.List.{List, [], _++_, append-nil, append-assoc}
-use Prim.Native.Nat.{ℕ, zero, suc, _+_, _<_}
+use Prim.Native.Nat.{ℕ, zero, suc, _+_, _≤_, _<_}
 use native.Mathlib.Nat.{add-zero, zero-add, add-assoc, add-suc}
 use native.Mathlib.Numerals.{add-one}
 use native.Mathlib.Omega.{arith}
@@ -78,6 +78,17 @@ module _ (s : Settings) (memory l t row : List ℕ) (i : ℕ) (g : Lent s memory
             ∙ sym (marked-append old (standingFrom s memory i a k) (chains s l (begun s memory i (a + k))))
             ∙ ap (λ (m : List ℕ). marked old (standingFrom s memory i a k ++ chains s m (begun s memory i (a + k)))) (g .stretch)),
       )
+
+  -- places with no letter, one behind the other
+  pub range-bare : (marks : List ℕ) (k : ℕ) → every k (rightAt s memory l t i a old) ≡ true → marks ≡ marked old (standingFrom s memory i a k)
+      → (d : ℕ) → ((j : ℕ) → k ≤ j → j < k + d → (queueRight s memory i (a + j) ≡ true) × (begun s memory i (a + j) ≡ []))
+      → (every (k + d) (rightAt s memory l t i a old) ≡ true) × (marks ≡ marked old (standingFrom s memory i a (k + d)))
+  range-bare marks k w e zero f = rw (add-zero k) (w, e)
+  range-bare marks k w e (suc d) f =
+      let b = range-bare marks k w e d (λ j h g. f j h (omega arith)) in
+      let h = f (k + d) (omega arith) (omega arith) in
+      let q : k + suc d ≡ k + d + 1 = omega arith in
+      rw q (range-none marks (k + d) (b .0) (b .1) (h .0) (h .1))
 
 -- ---- places behind places
 module _ (s : Settings) (memory : List ℕ) (i a n : ℕ) where

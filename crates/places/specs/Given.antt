@@ -11,7 +11,6 @@ use Rattle.layout.specs.Places.{nodes, firstFreeAt, node}
 use Rattle.layout.specs.Rows.{byRow}
 use Rattle.layout.specs.Asked.{Sized}
 use Rattle.tasks.specs.Table.{rightTable}
-use Rattle.blocks.specs.Chain.{link}
 use Rattle.sound.specs.Reading.{tableIn, stageOf, otherOf, heldOf}
 use Rattle.sound.specs.Queues.{rightSend, rightAck, rightTask}
 use Rattle.sound.specs.Letters.{chainFrom, endsWell, rightLetter}
@@ -75,13 +74,9 @@ placesRight s memory i marks =
 unfoldable pub nodeRight : Settings → List ℕ → ℕ → Bool
 nodeRight s memory i = every 77 (queueRight s memory i) && (eachOnce s memory i && rightLetters s memory i)
 
--- each link is that of a block, or 0: what the fifth rule asks of it, wherever the block stands
-unfoldable pub linksLow : Settings → List ℕ → Bool
-linksLow s stretch = every (s .m) (λ b. leb (link s stretch (suc b)) (s .m))
-
--- 1,025 bytes for the marks, none made yet
-pub record Blank (marks : List ℕ) : Type 0 where
-  pub long : length marks ≡ 1025
+-- bytes for the marks of blocks 1 to m, none made yet
+pub record Blank (m : ℕ) (marks : List ℕ) : Type 0 where
+  pub long : m < length marks
   pub none : (b : ℕ) → getD marks b 0 ≡ 0
 
 -- the blocks 1 to m have a mark

@@ -1,16 +1,19 @@
 // The places of a node: the queue and the letters at each of them, and each block in exactly one place.
+use queues::Kind;
 use settings::Settings;
 use visits::Walk;
 ghost use mathlib.Core.Path.{_≡_};
-ghost use Prim.Native.Nat.{_+_, _<_, _≤_};
+ghost use mathlib.Core.Bool.{true, _&&_};
+ghost use Prim.Native.Nat.{_-_, _<_, _≤_};
 ghost use lib.ListN.{length, getD};
-ghost use Rattle.layout.specs.Places.{firstFreeAt};
+ghost use Rattle.layout.specs.Places.{firstFreeAt, blockAt};
 ghost use Rattle.layout.specs.Asked.{Stretch};
+ghost use Rattle.queues.specs.Queue.{items};
 ghost use Rattle.sound.specs.Reading.{tableIn};
 ghost use Rattle.sound.specs.Letters.{chainFrom};
 ghost use Rattle.sound.specs.Blocks.{chains, begun, standing};
 ghost use Rattle.shapes.specs.Seats.{Seats};
-ghost use Rattle.visits.specs.Marks.{marked};
+ghost use Rattle.visits.specs.Marks.{marked, linksLow};
 ghost use Rattle.visits.specs.Letters.{lettersRight, Judged};
 ghost use Rattle.places.specs.Given.{
   Looked,
@@ -18,12 +21,13 @@ ghost use Rattle.places.specs.Given.{
   Blank,
   freeRight,
   standingFrom,
+  queueRight,
   rangeRight,
   placesRight,
   nodeRight,
-  linksLow,
   allMarked,
 };
+ghost use Rattle.places.specs.Runs.{Row, Passes, Stands, Run};
 
 // The letter in the postman's hand.
 fn is_right_hand(
@@ -36,6 +40,7 @@ fn is_right_hand(
     i: usize,
 ) -> bool
     requires { ⌜ Lent s (now memory) (now node) (now table) (now seats) i ⌝ }
+    requires { ⌜ linksLow s (now node) ≡ true ⌝ }
     requires { ⌜ s .m < length (now marks) ⌝ }
     ensures { λ r. ⌜ Judged (lettersRight s (now (node .entry)) (now (table .entry)) i 0 (now (marks .entry)) (begun s (now (memory .entry)) i 0)) (marked (now (marks .entry)) (chains s (now (node .entry)) (begun s (now (memory .entry)) i 0))) r (now (marks .exit)) ⌝ }
 {
@@ -46,49 +51,150 @@ fn is_right_hand(
     visits::is_right_letter(node, s, table, seats, marks, i, 0, memory[at + 2])
 }
 
-// The six send queues and their letters, places 1 to 6; most queues have no items, and that is looked at first.
-fn are_right_sends(
+// What passing over queues with no items tells: the next queue that has items, or that one with none is not right.
+pub enum Passed {
+    To(usize),
+    Wrong,
+}
+
+// Passes over the queues with no items of a row, from queue k on. What is wrong with them is joined, and looked at where a queue has items
+// and where the row ends; the word before the full count is a task queue's gap flag, or a send queue's items, which are 0.
+fn pass_empties(node: &[u32], kind: Kind, at: usize, step: usize, k: usize, n: usize) -> Passed
+    requires { ⌜ Row kind (now node) at step n ⌝ }
+    requires { ⌜ k ≤ n ⌝ }
+    ensures { λ r. ⌜ Passes kind (now (node .entry)) at step k n r ⌝ }
+{
+    let mut q = at + k * step;
+    let mut j = k;
+    let mut bits: u32 = 0;
+    while j < n {
+        if node[q + 1] != 0 {
+            if bits != 0 {
+                return Passed::Wrong;
+            }
+            return Passed::To(j);
+        }
+        bits = bits | (shapes::bits_of_empty(node, kind, q) | node[q + (kind.full - 1)]);
+        q += step;
+        j += 1;
+    }
+    if bits != 0 {
+        return Passed::Wrong;
+    }
+    Passed::To(j)
+}
+
+// A queue with items, the jth of its kind, at word q of node i's stretch, and its letters at place p. `post`: a send queue, else a task queue.
+fn is_right_filled(
     memory: &[u32],
     node: &[u32],
     s: Settings,
+    before: usize,
     table: &[u32],
     seats: &[u32],
     marks: &mut [u8],
     i: usize,
+    kind: Kind,
+    q: usize,
+    p: usize,
+    j: usize,
+    post: bool,
 ) -> bool
     requires { ⌜ Lent s (now memory) (now node) (now table) (now seats) i ⌝ }
+    requires { ⌜ linksLow s (now node) ≡ true ⌝ }
     requires { ⌜ s .m < length (now marks) ⌝ }
-    ensures { λ r. ⌜ Judged (rangeRight s (now (memory .entry)) i 1 6 (now (marks .entry))) (marked (now (marks .entry)) (standingFrom s (now (memory .entry)) i 1 6)) r (now (marks .exit)) ⌝ }
+    requires { ⌜ before ≡ blockAt s 1 - 1 ⌝ }
+    requires { ⌜ Stands s (now memory) (now node) (now table) (now seats) i kind q p j post ⌝ }
+    requires { ⌜ 1 ≤ items kind (now node) q ⌝ }
+    ensures { λ r. ⌜ Judged (queueRight s (now (memory .entry)) i p && lettersRight s (now (node .entry)) (now (table .entry)) i p (now (marks .entry)) (begun s (now (memory .entry)) i p)) (marked (now (marks .entry)) (chains s (now (node .entry)) (begun s (now (memory .entry)) i p))) r (now (marks .exit)) ⌝ }
 {
-    let kind = queues::send_kind(s);
-    let mut k: usize = 0;
-    while k < 6 {
-        let q = layout::send_at(s, k);
-        if shapes::is_empty(node, kind, q) {
-            if !shapes::is_right_empty(node, kind, q) {
-                return false;
-            }
-        } else {
-            if k == i {
-                return false;
-            }
-            if !judging::is_filled_post(
-                node,
-                kind,
-                q,
-                node,
-                s,
-                table,
-                seats,
-                marks,
-                i,
-                1 + k,
-                k as u32,
-            ) {
-                return false;
-            }
+    if post {
+        if j == i {
+            return false;
         }
-        k += 1;
+        return judging::is_filled_post(
+            node,
+            kind,
+            q,
+            node,
+            s,
+            before,
+            table,
+            seats,
+            marks,
+            i,
+            p,
+            j as u32,
+        );
+    }
+    let task = seats[i * 64 + j];
+    judging::is_filled_seat(
+        node,
+        kind,
+        q,
+        node,
+        s,
+        before,
+        table,
+        seats,
+        marks,
+        i,
+        p,
+        task,
+    )
+}
+
+// The queues of a row, n of one kind from place p on, and their letters; most queues have no items, and are passed over.
+fn are_right_queues(
+    memory: &[u32],
+    node: &[u32],
+    s: Settings,
+    before: usize,
+    table: &[u32],
+    seats: &[u32],
+    marks: &mut [u8],
+    i: usize,
+    kind: Kind,
+    at: usize,
+    step: usize,
+    p: usize,
+    n: usize,
+    post: bool,
+) -> bool
+    requires { ⌜ Lent s (now memory) (now node) (now table) (now seats) i ⌝ }
+    requires { ⌜ linksLow s (now node) ≡ true ⌝ }
+    requires { ⌜ s .m < length (now marks) ⌝ }
+    requires { ⌜ before ≡ blockAt s 1 - 1 ⌝ }
+    requires { ⌜ Run s (now memory) (now node) (now table) (now seats) i kind at step p n post ⌝ }
+    ensures { λ r. ⌜ Judged (rangeRight s (now (memory .entry)) i p n (now (marks .entry))) (marked (now (marks .entry)) (standingFrom s (now (memory .entry)) i p n)) r (now (marks .exit)) ⌝ }
+{
+    let mut k: usize = 0;
+    while k < n {
+        let Passed::To(j) = pass_empties(node, kind, at, step, k, n) else {
+            return false;
+        };
+        if j == n {
+            return true;
+        }
+        let q = at + j * step;
+        if !is_right_filled(
+            memory,
+            node,
+            s,
+            before,
+            table,
+            seats,
+            marks,
+            i,
+            kind,
+            q,
+            p + j,
+            j,
+            post,
+        ) {
+            return false;
+        }
+        k = j + 1;
     }
     true
 }
@@ -98,12 +204,15 @@ fn are_right_acks(
     memory: &[u32],
     node: &[u32],
     s: Settings,
+    before: usize,
     table: &[u32],
     seats: &[u32],
     marks: &mut [u8],
     i: usize,
 ) -> bool
     requires { ⌜ Lent s (now memory) (now node) (now table) (now seats) i ⌝ }
+    requires { ⌜ linksLow s (now node) ≡ true ⌝ }
+    requires { ⌜ before ≡ blockAt s 1 - 1 ⌝ }
     requires { ⌜ s .m < length (now marks) ⌝ }
     ensures { λ r. ⌜ Judged (rangeRight s (now (memory .entry)) i 7 6 (now (marks .entry))) (marked (now (marks .entry)) (standingFrom s (now (memory .entry)) i 7 6)) r (now (marks .exit)) ⌝ }
 {
@@ -128,6 +237,7 @@ fn are_right_acks(
                 q,
                 node,
                 s,
+                before,
                 table,
                 seats,
                 marks,
@@ -143,58 +253,7 @@ fn are_right_acks(
     true
 }
 
-// The task queues from `first` on, 32 of them, and their letters. It is called for each half of the 64: a function with two callers stays one,
-// and keeps what it counts with in registers.
-fn are_right_tasks(
-    memory: &[u32],
-    node: &[u32],
-    s: Settings,
-    table: &[u32],
-    seats: &[u32],
-    marks: &mut [u8],
-    i: usize,
-    first: usize,
-) -> bool
-    requires { ⌜ Lent s (now memory) (now node) (now table) (now seats) i ⌝ }
-    requires { ⌜ s .m < length (now marks) ⌝ }
-    requires { ⌜ first ≤ 32 ⌝ }
-    ensures { λ r. ⌜ Judged (rangeRight s (now (memory .entry)) i (13 + first) 32 (now (marks .entry))) (marked (now (marks .entry)) (standingFrom s (now (memory .entry)) i (13 + first) 32)) r (now (marks .exit)) ⌝ }
-{
-    let kind = queues::task_kind(s);
-    let mut q = layout::task_at(s, first);
-    let mut k: usize = 0;
-    while k < 32 {
-        if shapes::is_empty(node, kind, q) {
-            if node[q + 2] != 0 {
-                return false;
-            }
-            if !shapes::is_right_empty(node, kind, q) {
-                return false;
-            }
-        } else {
-            let task = seats[i * 64 + (first + k)];
-            if !judging::is_filled_seat(
-                node,
-                kind,
-                q,
-                s,
-                table,
-                seats,
-                marks,
-                i,
-                13 + first + k,
-                task,
-            ) {
-                return false;
-            }
-        }
-        q += 5 + s.t;
-        k += 1;
-    }
-    true
-}
-
-// The queues and the letters at the 77 places of node i.
+// The queues and the letters at the 77 places of node i: its send queues, acknowledge queue i on the six nodes, its task queues.
 fn are_right_places(
     memory: &[u32],
     node: &[u32],
@@ -205,27 +264,61 @@ fn are_right_places(
     i: usize,
 ) -> bool
     requires { ⌜ Lent s (now memory) (now node) (now table) (now seats) i ⌝ }
+    requires { ⌜ linksLow s (now node) ≡ true ⌝ }
     requires { ⌜ s .m < length (now marks) ⌝ }
     ensures { λ r. ⌜ Judged (placesRight s (now (memory .entry)) i (now (marks .entry))) (marked (now (marks .entry)) (standing s (now (memory .entry)) i 77)) r (now (marks .exit)) ⌝ }
 {
     if !is_right_hand(memory, node, s, table, seats, marks, i) {
         return false;
     }
-    if !are_right_sends(memory, node, s, table, seats, marks, i) {
+    let before = layout::block_at(s, 1) - 1;
+    let sends = queues::send_kind(s);
+    let send = layout::send_at(s, 0);
+    if !are_right_queues(
+        memory,
+        node,
+        s,
+        before,
+        table,
+        seats,
+        marks,
+        i,
+        sends,
+        send,
+        3 + s.s,
+        1,
+        6,
+        true,
+    ) {
         return false;
     }
-    if !are_right_acks(memory, node, s, table, seats, marks, i) {
+    if !are_right_acks(memory, node, s, before, table, seats, marks, i) {
         return false;
     }
-    if !are_right_tasks(memory, node, s, table, seats, marks, i, 0) {
-        return false;
-    }
-    are_right_tasks(memory, node, s, table, seats, marks, i, 32)
+    let tasks = queues::task_kind(s);
+    let task = layout::task_at(s, 0);
+    are_right_queues(
+        memory,
+        node,
+        s,
+        before,
+        table,
+        seats,
+        marks,
+        i,
+        tasks,
+        task,
+        5 + s.t,
+        13,
+        64,
+        false,
+    )
 }
 
 // The free list.
 fn is_right_free(node: &[u32], s: Settings, marks: &mut [u8]) -> bool
     requires { ⌜ Stretch s (now node) ⌝ }
+    requires { ⌜ linksLow s (now node) ≡ true ⌝ }
     requires { ⌜ s .m < length (now marks) ⌝ }
     ensures { λ r. ⌜ Judged (freeRight s (now (node .entry)) (now (marks .entry))) (marked (now (marks .entry)) (chainFrom s (now (node .entry)) (getD (now (node .entry)) firstFreeAt 0))) r (now (marks .exit)) ⌝ }
 {
@@ -252,22 +345,24 @@ fn are_all_marked(marks: &[u8], m: usize) -> bool
     all
 }
 
-// Whether each link is that of a block, or 0. The links are looked at as they stand, before the walks want them in any order: so they are
-// near when they are wanted.
+// Whether each link is that of a block, or 0: the greatest tells. They are looked at as they stand, before the walks want them in any
+// order: so they are near then, and a link that is followed needs no test.
 fn are_links_low(node: &[u32], s: Settings) -> bool
     requires { ⌜ Stretch s (now node) ⌝ }
     ensures { λ r. ⌜ r ≡ linksLow s (now (node .entry)) ⌝ }
 {
-    let mut low = true;
+    let mut most: u32 = 0;
+    let mut at = layout::link_at(s, 1);
     let mut b: usize = 0;
     while b < s.m {
-        let at = layout::link_at(s, b + 1);
-        if s.m < node[at] as usize {
-            low = false;
+        let link = node[at];
+        if most < link {
+            most = link;
         }
+        at += s.b;
         b += 1;
     }
-    low
+    most <= s.m as u32
 }
 
 // The third, the fifth and the sixth rule over the places of node i, with no block marked yet.
@@ -281,7 +376,7 @@ fn is_right_marked(
     i: usize,
 ) -> bool
     requires { ⌜ Lent s (now memory) (now node) (now table) (now seats) i ⌝ }
-    requires { ⌜ Blank (now marks) ⌝ }
+    requires { ⌜ Blank (s .m) (now marks) ⌝ }
     ensures { λ r. ⌜ r ≡ nodeRight s (now (memory .entry)) i ⌝ }
 {
     if !are_links_low(node, s) {
@@ -296,17 +391,29 @@ fn is_right_marked(
     are_all_marked(marks, s.m)
 }
 
-// The third, the fifth and the sixth rule over the places of node i.
+// The third, the fifth and the sixth rule over the places of node i. Where the blocks are few, so are the marks: they are made sooner.
 pub fn is_right_node(memory: &[u32], s: Settings, seats: &[u32], i: usize) -> bool
     requires { ⌜ Looked s (now memory) ⌝ }
     requires { ⌜ Seats (tableIn (now memory)) (now seats) ⌝ }
     requires { ⌜ i < 6 ⌝ }
     ensures { λ r. ⌜ r ≡ nodeRight s (now (memory .entry)) i ⌝ }
 {
-    let mut marks = [0u8; 1025];
     let size = layout::node_size(s);
     let a = layout::node_at(s, i);
     let e = a + size;
+    if s.m < 128 {
+        let mut few = [0u8; 128];
+        return is_right_marked(
+            memory,
+            &memory[a..e],
+            s,
+            &memory[24..536],
+            seats,
+            &mut few,
+            i,
+        );
+    }
+    let mut marks = [0u8; 1025];
     is_right_marked(
         memory,
         &memory[a..e],

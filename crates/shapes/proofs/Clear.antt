@@ -12,12 +12,13 @@ use lib.Bits.{bitOr}
 use borrow.Author.Tests.{eqb-true, eq-eqb, lt-ltb, le-ltb, le-leb}
 use Rattle.words.specs.Words.{every}
 use Rattle.words.proofs.Bits.{or-zero}
-use Rattle.words.proofs.Lists.{le-or-lt, and-true, and-join, same-test, every-at, every-all}
+use Rattle.words.proofs.Lists.{le-or-lt, and-true, and-join, and-false, same-test, every-at, every-all}
 use Rattle.queues.specs.declared.Kind.{Kind}
 use Rattle.queues.specs.Queue.{start, items, itemAt}
 use Rattle.sound.specs.Queues.{inShape}
-use Rattle.sound.proofs.Tests.{every-none}
+use Rattle.sound.proofs.Tests.{every-none, and-yes, and-cross}
 use Rattle.shapes.specs.Shape.{zeroes, clearOutside}
+use Rattle.shapes.proofs.Steps.{shape-start}
 
 -- ---- words that are 0
 module _ (l : List ℕ) (a e : ℕ) where
@@ -82,6 +83,28 @@ module _ (l : List ℕ) where
   few-ends a e n x y h k u v =
       let d : e - n + n ≡ e = omega arith in
       or-zero x y ∙ ap₂ _&&_ u (v ∙ ap (zeroes l (e - n)) d) ∙ sym (over a (e - n) (a + n) e (omega arith) (omega arith) (omega arith))
+
+  -- what was joined of n words and of the next n
+  pub few-twice : (a n x y : ℕ) → eqb x 0 ≡ zeroes l a (a + n) → eqb y 0 ≡ zeroes l (a + n) (a + n + n) → eqb (bitOr x y) 0 ≡ zeroes l a (a + (n + n))
+  few-twice a n x y u v =
+      let d : a + n ≡ a + (n + n) - n = omega arith in
+      few-ends a (a + (n + n)) n x y (omega arith) (omega arith) u (rw d at v)
+
+  -- ---- many words: a turn of the loop, beside what was joined of the last of them
+  module _ (a e n : ℕ) where
+    pub many-none : (x : ℕ) → eqb x 0 ≡ zeroes l (e - n) e → eqb x 0 ≡ zeroes l a a && zeroes l (e - n) e
+    many-none x u = rw (← few-none a a refl) u
+
+    pub many-more : (i m x y : ℕ) → a ≤ i → eqb x 0 ≡ zeroes l a i && zeroes l (e - n) e → eqb y 0 ≡ zeroes l i (i + m) → eqb (bitOr x y) 0 ≡ zeroes l a (i + m) && zeroes l (e - n) e
+    many-more i m x y k u v =
+        let p : Bool = zeroes l a i in
+        let q : Bool = zeroes l (e - n) e in
+        let r : Bool = zeroes l i (i + m) in
+        let w : (p && q) && r ≡ (p && r) && q = rw (and-yes r, and-yes q) at (and-cross p q r true) in
+        or-zero x y ∙ ap₂ _&&_ u v ∙ w ∙ sym (ap (λ (b : Bool). b && q) (over a i i (i + m) k (omega arith) (omega arith)))
+
+    pub many-all : (i x : ℕ) → a + n ≤ e → a ≤ i → e ≤ i + n → i ≤ e → eqb x 0 ≡ zeroes l a i && zeroes l (e - n) e → eqb x 0 ≡ zeroes l a e
+    many-all i x h j k m u = u ∙ sym (over a (e - n) i e (omega arith) (omega arith) m)
 
 -- ---- a queue's slots
 module _ (k : Kind) (l : List ℕ) (q : ℕ) where
@@ -207,3 +230,12 @@ module _ (k : Kind) (l : List ℕ) (q : ℕ) (none : items k l q ≡ 0) where
       (λ w. zero-at l (q + k .head) (q + k .head + z) (u .1) p x w)
       (le-or-lt (q + k .head + z) p)))
       ∙ clear-straight k l q h (omega arith) (omega arith))
+
+  -- what is wrong with it, joined: a slot that is not 0, and a start that is too great
+  pub empty-bits : (full over : ℕ) → eqb full 0 ≡ zeroes l (q + k .head) (q + k .head + k .slots) → eqb over 0 ≡ ltb (start k l q) (k .slots) → eqb (bitOr full over) 0 ≡ inShape k l q
+  empty-bits full over u v =
+      or-zero full over ∙ ap₂ _&&_ u v
+      ∙ ⊎-elim
+      (λ h. rw (le-ltb (start k l q) (k .slots) h) (and-false (zeroes l (q + k .head) (q + k .head + k .slots)) ∙ shape-start k l q h))
+      (λ h. rw (lt-ltb (start k l q) (k .slots) h) (and-yes (zeroes l (q + k .head) (q + k .head + k .slots)) ∙ empty-is h))
+      (le-or-lt (k .slots) (start k l q))

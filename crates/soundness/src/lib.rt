@@ -125,7 +125,7 @@ fn is_right_memory(memory: &[u32], s: Settings) -> bool
     requires { ⌜ Sized s (now memory) ⌝ }
     ensures { λ r. ⌜ r ≡ (rightTable (tableIn (now (memory .entry))) && seatedRight s (now (memory .entry))) ⌝ }
 {
-    let mut seats = [0u32; 384];
+    let mut seats = [0u32; 512];
     if !tasks::seat_tasks(&memory[24..536], &mut seats) {
         return false;
     }

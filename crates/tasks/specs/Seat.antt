@@ -1,7 +1,7 @@
 -- Where a task sits: its node and its queue; and the row of all seats.
 use mathlib.Core.Bool.{cond}
 use mathlib.Core.List.{List}
-use Prim.Native.Nat.{ℕ, zero, suc, _+_, _*_}
+use Prim.Native.Nat.{ℕ, zero, suc, _+_, _*_, _%_}
 use lib.ListN.{set, replicate}
 use Rattle.tasks.specs.Table.{nodeOf, queueOf, isBound}
 use Rattle.tasks.specs.declared.Seat.{Seat}
@@ -11,15 +11,19 @@ use Rattle.tasks.specs.declared.Seat.the-variants.{At, Unbound}
 unfoldable pub seatOf : List ℕ → ℕ → Seat
 seatOf table task = cond (isBound table task) (At (nodeOf table task) (queueOf table task)) Unbound
 
--- the word of the seat at node i and queue q, in a row of 384
+-- the word of the seat at node i and queue q, in a row of 512
 abbrev pub seatAt : ℕ → ℕ → ℕ
 seatAt i q = i * 64 + q
 
--- the row with one task put on its seat, if it has one
-unfoldable pub putOn : List ℕ → List ℕ → ℕ → List ℕ
-putOn table seats id = cond (isBound table id) (set seats (seatAt (nodeOf table id) (queueOf table id)) id) seats
+-- the word that an id is put at: its seat's; an unbound id's, 448, is no seat of the six nodes
+abbrev pub wordOf : List ℕ → ℕ → ℕ
+wordOf table id = nodeOf table id % 8 * 64 + queueOf table id % 64
 
--- the row with the ids below n put on their seats; 0 on a seat of none
+-- the row with one id put at its word: a task on its seat, an unbound id at a word that is no seat
+unfoldable pub putOn : List ℕ → List ℕ → ℕ → List ℕ
+putOn table seats id = set seats (wordOf table id) id
+
+-- the row with each id below n put at its word; 0 on a seat of none
 unfoldable pub seatRow : List ℕ → ℕ → List ℕ
-seatRow table zero = replicate 384 0
+seatRow table zero = replicate 512 0
 seatRow table (suc n) = putOn table (seatRow table n) n

@@ -10,7 +10,7 @@ use lib.Dec.{eqb, leb}
 use lib.ListN.{length, getD, set, length-set}
 use borrow.Author.Tests.{eq-eqb, ne-eqb, le-leb, lt-leb, eqb-true, leb-true}
 use Rattle.words.specs.Words.{all}
-use Rattle.words.proofs.Lists.{and-true, and-false, split, le-or-lt, told-no, told-yes}
+use Rattle.words.proofs.Lists.{every-at, and-true, and-false, split, le-or-lt, told-no, told-yes}
 use Rattle.settings.specs.declared.Settings.{Settings}
 use Rattle.layout.specs.Places.{blockAt, linkAt}
 use Rattle.layout.specs.Asked.{Stretch}
@@ -25,7 +25,7 @@ use Rattle.visits.specs.declared.Stepped.{Stepped}
 use Rattle.visits.specs.declared.Stepped.the-variants.{On, Stuck}
 use Rattle.visits.specs.declared.Went.{Went}
 use Rattle.visits.specs.declared.Went.the-variants.{On as Further, Over}
-use Rattle.visits.specs.Marks.{fresh, marked, endsWithin, clean, Visited, Linked, stepsOn, stepped, steppedOn, toldBy, Walked, Gone}
+use Rattle.visits.specs.Marks.{fresh, marked, endsWithin, clean, Visited, linksLow, Linked, stepsOn, stepped, steppedOn, toldBy, Walked, Gone}
 
 -- ---- lists joined
 pub fresh-append : (marks l m : List ℕ) → fresh marks (l ++ m) ≡ fresh marks l && fresh (marked marks l) m
@@ -102,10 +102,6 @@ module _ (words : List ℕ) (before width m : ℕ) where
     unfolding stepped steppedOn
     stuck f = (rw f, rw f)
 
-    pub step-above : m < b → (Stuck ≡ stepped words before width m marks b) × (marks ≡ steppedOn m marks b)
-    unfolding stepsOn
-    step-above h = stuck (rw (lt-leb b m h))
-
     pub step-marked : (getD marks b 0 ≡ 0 → ⊥) → (Stuck ≡ stepped words before width m marks b) × (marks ≡ steppedOn m marks b)
     unfolding stepsOn
     step-marked h = stuck (rw (ne-eqb (getD marks b 0) 0 h) (and-false (leb b m)))
@@ -162,6 +158,10 @@ module _ (words : List ℕ) (before width m n b : ℕ) (marks : List ℕ) (low :
         high : (m : ℕ) (s : Settings) → m ≡ s .m → leb b m ≡ false → s .m < b
         high m s e t = ⊎-elim (λ k. absurd (false≢true (sym t ∙ le-leb b m (omega arith)))) (λ k. k) (le-or-lt b (s .m))
 
+    pub follow-above : (new : List ℕ) → m < b → Walked words before width m n b marks 0 new
+    unfolding stepsOn
+    follow-above new k = follow-stuck new (rw (lt-leb b m k))
+
     -- a block stepped on
     module _ (next : ℕ) (new : List ℕ) (w : (b ≤ m) × (getD marks b 0 ≡ 0) × (next ≡ getD words (before + b * width) 0) × (new ≡ set marks b 1)) where
       goes : (s : Settings) → Stretch s words → before ≡ blockAt s 1 - 1 → width ≡ s .b → next ≡ link s words b
@@ -184,10 +184,10 @@ module _ (words : List ℕ) (before width m n b : ℕ) (old : List ℕ) (new : L
   unfolding Gone
   gone-over r v = v
 
-  pub gone-on : (next : ℕ) → 1 ≤ next → 1 ≤ n → ((r : ℕ) (left : List ℕ) → Walked words before width m (n - 1) next new r left → Walked words before width m n b old r left)
+  pub gone-on : (next : ℕ) → 1 ≤ next → next ≤ m → 1 ≤ n → ((r : ℕ) (left : List ℕ) → Walked words before width m (n - 1) next new r left → Walked words before width m n b old r left)
       → Gone words before width m n b old (Further next) new
   unfolding Gone
-  gone-on next h g f = (h, g, f)
+  gone-on next h k g f = ((h, k), g, f)
 
   module _ (w : Went) (v : Gone words before width m n b old w new) where
     pub was-over : (r : ℕ) → w ≡ Over r → Walked words before width m n b old r new
@@ -195,23 +195,35 @@ module _ (words : List ℕ) (before width m n b : ℕ) (old : List ℕ) (new : L
     was-over r e = rw e at v
 
     pub was-further : (next : ℕ) → w ≡ Further next
-        → (1 ≤ next) × (1 ≤ n) × ((r : ℕ) (left : List ℕ) → Walked words before width m (n - 1) next new r left → Walked words before width m n b old r left)
+        → ((1 ≤ next) × (next ≤ m)) × (1 ≤ n) × ((r : ℕ) (left : List ℕ) → Walked words before width m (n - 1) next new r left → Walked words before width m n b old r left)
     unfolding Gone
     was-further next e = rw e at v
 
 -- ---- a visit by a walk
 module _ (s : Settings) (l : List ℕ) (st : Stretch s l) (before : ℕ) (e : before ≡ blockAt s 1 - 1) where
-  pub linked : Linked l before (s .b) (s .m)
-  linked =
+  pub link-word : (b : ℕ) → 1 ≤ b → before + b * s .b ≡ linkAt s b
+  link-word b h =
+      let w = st .range .b .low in
+      let d : s .b - 1 + 1 ≡ s .b = omega arith in
+      rw e (ap (λ (k : ℕ). blockAt s 1 - 1 + b * k) (sym d) ∙ link-from s (st .range) b h)
+
+  link-low : linksLow s l ≡ true → (b : ℕ) → 1 ≤ b → b ≤ s .m → getD l (before + b * s .b) 0 ≤ s .m
+  unfolding linksLow
+  link-low y b h k =
+      let d : suc (b - 1) ≡ b = omega arith in
+      let u = leb-true (link s l (suc (b - 1))) (s .m) (every-at (λ n. leb (link s l (suc n)) (s .m)) (s .m) y (b - 1) (omega arith)) in
+      let f : getD l (before + b * s .b) 0 ≡ link s l (suc (b - 1)) = rw d (ap (λ (n : ℕ). getD l n 0) (link-word b h)) in
+      rw f u
+
+  pub linked : linksLow s l ≡ true → Linked l before (s .b) (s .m)
+  linked y =
       let r = st .range in
       let z = st .long in
       let low = r .m .low in
-      let w = r .b .low in
-      let d : s .b - 1 + 1 ≡ s .b = omega arith in
-      let f : before + s .m * s .b ≡ linkAt s (s .m) = rw e (ap (λ (k : ℕ). blockAt s 1 - 1 + s .m * k) (sym d) ∙ link-from s r (s .m) low) in
+      let f = link-word (s .m) low in
       let fits = block-fits s (s .m) low (omega arith) in
       let small = node-small s r in
-      record { inside = omega arith; small = omega arith }
+      record { inside = omega arith; small = omega arith; low = link-low y }
 
   pub visited-as : (n b : ℕ) (old : List ℕ) (r : ℕ) (new : List ℕ) (w : Walk) → toldBy r ≡ w → Walked l before (s .b) (s .m) n b old r new → Visited s l n b old w new
   visited-as n b old r new w q v = rw q at (v s st e refl refl)

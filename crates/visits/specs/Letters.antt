@@ -16,7 +16,7 @@ use Rattle.sound.specs.Letters.{chainFrom, endsWell, rightLength, rightLetter}
 use Rattle.sound.specs.Blocks.{chains}
 use Rattle.tasks.specs.Seat.{seatAt}
 use Rattle.shapes.specs.Seats.{Seats}
-use Rattle.visits.specs.Marks.{fresh}
+use Rattle.visits.specs.Marks.{fresh, linksLow}
 
 -- a chain that was visited to its end, and how many blocks it has
 pub record Whole (s : Settings) (words : List ℕ) (b n : ℕ) : Type 0 where
@@ -47,9 +47,10 @@ unfoldable pub isAtPlace : List ℕ → ℕ → ℕ → ℕ → ℕ → ℕ → 
 isAtPlace seats i p from task to =
     byRow p true (isFromTo from to i (p - 1)) (isFromTo from to i (p - 7)) (eqb task (getD seats (seatAt i (p - 13)) 0)) true
 
--- a node's stretch, the task table with its row of seats, the node and a place of it
+-- a node's stretch with no link too high, the task table with its row of seats, the node and a place of it
 pub record Placing (s : Settings) (words ids row : List ℕ) (i p : ℕ) : Type 0 where
   pub stretch : Stretch s words
+  pub links : linksLow s words ≡ true
   pub table : rightTable ids ≡ true
   pub seats : Seats ids row
   pub node : i < nodes

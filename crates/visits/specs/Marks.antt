@@ -5,11 +5,11 @@ use mathlib.Core.List.{List, [], _∷_}
 use Prim.Native.Nat.{ℕ, zero, suc, _+_, _-_, _*_, _≤_, _<_}
 use lib.Dec.{eqb, leb}
 use lib.ListN.{length, getD, set}
-use Rattle.words.specs.Words.{all}
+use Rattle.words.specs.Words.{every, all}
 use Rattle.settings.specs.declared.Settings.{Settings}
 use Rattle.layout.specs.Places.{blockAt}
 use Rattle.layout.specs.Asked.{Stretch}
-use Rattle.blocks.specs.Chain.{list, after}
+use Rattle.blocks.specs.Chain.{link, list, after}
 use Rattle.visits.specs.declared.Walk.{Walk}
 use Rattle.visits.specs.declared.Walk.the-variants.{Ended, Bad}
 use Rattle.visits.specs.declared.Stepped.{Stepped}
@@ -42,10 +42,15 @@ pub record Visited (s : Settings) (stretch : List ℕ) (n b : ℕ) (old : List �
   pub is : r ≡ cond (clean s stretch n b old) (Ended (n - length (list s stretch n b))) Bad
   pub marks : clean s stretch n b old ≡ true → new ≡ marked old (list s stretch n b)
 
--- ---- the same in numbers: the link of block b is word before + b * width, for the blocks 1 to m
+-- each link is that of a block, or 0: what the fifth rule asks of it, wherever the block stands
+unfoldable pub linksLow : Settings → List ℕ → Bool
+linksLow s stretch = every (s .m) (λ b. leb (link s stretch (suc b)) (s .m))
+
+-- ---- the same in numbers: the link of block b is word before + b * width, for the blocks 1 to m; no link is above m
 pub record Linked (words : List ℕ) (before width m : ℕ) : Type 0 where
   pub inside : before + m * width < length words
   pub small : before + m * width ≤ 85274
+  pub low : (b : ℕ) → 1 ≤ b → b ≤ m → getD words (before + b * width) 0 ≤ m
 
 -- block b may be stepped on: it is one, and has no mark
 unfoldable pub stepsOn : ℕ → List ℕ → ℕ → Bool
@@ -70,5 +75,5 @@ Walked words before width m n b old r new =
 -- one block of a walk: what it answers where it is over, else that the walk from the next block on is the rest of it
 unfoldable pub Gone : List ℕ → ℕ → ℕ → ℕ → ℕ → ℕ → List ℕ → Went → List ℕ → Type 0
 Gone words before width m n b old (On next) new =
-    (1 ≤ next) × (1 ≤ n) × ((r : ℕ) (left : List ℕ) → Walked words before width m (n - 1) next new r left → Walked words before width m n b old r left)
+    ((1 ≤ next) × (next ≤ m)) × (1 ≤ n) × ((r : ℕ) (left : List ℕ) → Walked words before width m (n - 1) next new r left → Walked words before width m n b old r left)
 Gone words before width m n b old (Over r) new = Walked words before width m n b old r new

@@ -13,6 +13,7 @@ ghost use Rattle.sound.specs.Letters.{rightLength, rightHeader, rightPlace, wor
 ghost use Rattle.sound.specs.Blocks.{chains};
 ghost use Rattle.visits.specs.Marks.{
   marked,
+  linksLow,
   Linked,
   stepped,
   steppedOn,
@@ -44,17 +45,15 @@ pub enum Stepped {
     Stuck,
 }
 
-// Marks block b and tells its link, word `before + b * width`; stuck where b is above m or has a mark.
+// Marks block b and tells its link, word `before + b * width`; stuck where b has a mark.
 fn step(node: &[u32], before: usize, width: usize, m: usize, marks: &mut [u8], b: u32) -> Stepped
     requires { ⌜ Linked (now node) before width m ⌝ }
     requires { ⌜ m < length (now marks) ⌝ }
+    requires { ⌜ b ≤ m ⌝ }
     ensures answer { λ r. ⌜ r ≡ stepped (now (node .entry)) before width m (now (marks .entry)) b ⌝ }
     ensures stored { λ _. ⌜ now (marks .exit) ≡ steppedOn m (now (marks .entry)) b ⌝ }
 {
     let at = b as usize;
-    if m < at {
-        return Stepped::Stuck;
-    }
     if marks[at] != 0 {
         return Stepped::Stuck;
     }
@@ -80,7 +79,7 @@ pub fn go_on(
 ) -> Went
     requires { ⌜ Linked (now node) before width m ⌝ }
     requires { ⌜ m < length (now marks) ⌝ }
-    requires { ⌜ 1 ≤ b ⌝ }
+    requires { ⌜ (1 ≤ b) × (b ≤ m) ⌝ }
     ensures { λ r. ⌜ Gone (now (node .entry)) before width m owed b (now (marks .entry)) r (now (marks .exit)) ⌝ }
 {
     if owed == 0 {
@@ -109,7 +108,7 @@ pub fn follow(
 ) -> usize
     requires { ⌜ Linked (now node) before width m ⌝ }
     requires { ⌜ m < length (now marks) ⌝ }
-    requires { ⌜ 1 ≤ b ⌝ }
+    requires { ⌜ (1 ≤ b) × (b ≤ m) ⌝ }
     ensures { λ r. ⌜ Walked (now (node .entry)) before width m owed b (now (marks .entry)) r (now (marks .exit)) ⌝ }
 {
     let first = go_on(node, before, width, m, marks, b, owed);
@@ -139,6 +138,7 @@ pub fn follow(
 // mark, or the chain does not end. Most letters have one block: the first step is made here.
 pub fn visit(node: &[u32], s: Settings, marks: &mut [u8], b: u32, owed: usize) -> Walk
     requires { ⌜ Stretch s (now node) ⌝ }
+    requires { ⌜ linksLow s (now node) ≡ true ⌝ }
     requires { ⌜ s .m < length (now marks) ⌝ }
     ensures { λ r. ⌜ Visited s (now (node .entry)) owed b (now (marks .entry)) r (now (marks .exit)) ⌝ }
 {
@@ -146,6 +146,9 @@ pub fn visit(node: &[u32], s: Settings, marks: &mut [u8], b: u32, owed: usize) -
         return Walk::Ended(owed);
     }
     if owed == 0 {
+        return Walk::Bad;
+    }
+    if s.m < b as usize {
         return Walk::Bad;
     }
     let before = layout::block_at(s, 1) - 1;
@@ -220,7 +223,7 @@ fn is_from_to(from: u32, to: u32, i: usize, k: usize) -> bool
 
 // Whether a header is right at place p of node i.
 fn is_at_place(seats: &[u32], i: usize, p: usize, from: u32, task: u32, to: u32) -> bool
-    requires { ⌜ length (now seats) ≡ 384 ⌝ }
+    requires { ⌜ length (now seats) ≡ 512 ⌝ }
     requires { ⌜ i < 6 ⌝ }
     requires { ⌜ p < 77 ⌝ }
     ensures { λ r. ⌜ r ≡ isAtPlace (now (seats .entry)) i p from task to ⌝ }
@@ -249,7 +252,7 @@ fn is_right_head(
     to: u32,
 ) -> bool
     requires { ⌜ rightTable (now table) ≡ true ⌝ }
-    requires { ⌜ length (now seats) ≡ 384 ⌝ }
+    requires { ⌜ length (now seats) ≡ 512 ⌝ }
     requires { ⌜ (i < 6) × (p < 77) ⌝ }
     ensures { λ r. ⌜ r ≡ (isOn (now (table .entry)) source from && (isOn (now (table .entry)) task to && isAtPlace (now (seats .entry)) i p from task to)) ⌝ }
 {

@@ -1,132 +1,120 @@
 -- `judging::is_right_near` meets its contract. Assumes nothing.
-use Rattle.judging.proofs.Near.{near-bad, near-least, near-in, near-short, near-head}
-use Rattle.visits.proofs.Walks.{linked}
-use Rattle.letters.proofs.Steps.{first-block}
-use borrow.Author.Tests.{not-true, not-false}
-use mathlib.Core.Path.{ap}
-use Prim.Native.Nat.{_+_, _-_}
 use native.Mathlib.Omega.{arith}
+use Rattle.visits.proofs.Walks.{linked}
+use Rattle.judging.proofs.Near.{near-bad, near-least, near-at, near-told}
 use borrow.Author.Needs.{needs}
 use Rattle.judging.proofs.is_right_near.Statement.{statement}
 use Rattle.judging.proofs.is_right_near.Tie as tie
 
-block-at-requires : tie.Need-block-at-requires
-block-at-requires c κs = search needs
-
-sub-before : tie.Need-sub-before
-sub-before c = let y = c .before .before .before .before in first-block (y .args .s) (y .pre .0 .stretch .range) _ (c .block-at .ensures .is) .0
-
 go-far-requires : tie.Need-go-far-requires
-go-far-requires c κs = let y = c .before .before .before .before .before in let x = y .args in let at = ap (λ n. n - 1) (c .before .block-at .ensures .is) in (linked (x .s) (x .node .now) (y .pre .0 .stretch) _ at, (y .pre .1 .0, y .pre .1 .1))
+go-far-requires c κs = let y = c .before .before .before .before in let x = y .args in (linked (x .s) (x .node .now) (y .pre .0 .stretch) _ (y .pre .1 .0) (y .pre .0 .links), (y .pre .1 .1 .0, (y .pre .1 .1 .1, y .pre .0 .stretch .range .m .low)))
 
 same-length : tie.Need-same-length
 same-length c = search needs
 
 returns : tie.Need-returns
-returns c = let y = c .before .before .before .before .before .before .before .before .before in let x = y .args in let at = ap (λ n. n - 1) (c .before .before .before .before .before .block-at .ensures .is) in near-bad (x .s) (x .node .now) (x .table .now) (x .i) (x .p) (x .post) (x .k) (x .owner) (y .pre .0) (x .b) (y .pre .1 .1) (x .marks .now) _ at _ _ (c .before .before .before .go-far .ensures) (c .if1 .taken)
+returns c = let y = c .before .before .before .before .before .before .before .before in let x = y .args in near-bad (x .s) (x .node .now) (x .table .now) (x .i) (x .p) (x .post) (x .k) (x .owner) (y .pre .0) (x .b) (y .pre .1 .1 .1) (x .marks .now) (x .before) (y .pre .1 .0) _ _ (c .before .before .before .go-far .ensures) (c .if1 .taken)
 
 sub-count : tie.Need-sub-count
 sub-count c = search needs
 
 sub-count-2 : tie.Need-sub-count-2
-sub-count-2 c = let y = c .before .before .before .before .before .before .before .before .before .before in let x = y .args in let at = ap (λ n. n - 1) (c .before .before .before .before .before .before .block-at .ensures .is) in omega (arith, near-least (x .s) (x .node .now) (x .table .now) (x .i) (x .p) (x .post) (x .k) (x .owner) (y .pre .0) (x .b) (y .pre .1 .1) (x .marks .now) _ at _ _ (c .before .before .before .before .go-far .ensures) (c .before .if1 .left))
+sub-count-2 c = let y = c .before .before .before .before .before .before .before .before .before in let x = y .args in omega (arith, near-least (x .s) (x .node .now) (x .table .now) (x .i) (x .p) (x .post) (x .k) (x .owner) (y .pre .0) (x .b) (y .pre .1 .1 .1) (x .marks .now) (x .before) (y .pre .1 .0) _ _ (c .before .before .before .before .go-far .ensures) (c .before .if1 .left))
 
-block-at-requires-2 : tie.Need-block-at-requires-2
-block-at-requires-2 c κs = let y = c .before .before .before .before .before .before .before .before .before .before in let x = y .args in let at = ap (λ n. n - 1) (c .before .before .before .before .before .before .block-at .ensures .is) in (y .pre .0 .stretch .range, near-in (x .s) (x .node .now) (x .table .now) (x .i) (x .p) (x .post) (x .k) (x .owner) (y .pre .0) (x .b) (y .pre .1 .1) (x .marks .now) _ at _ _ (c .before .before .before .before .go-far .ensures) (c .before .if1 .left))
+mul-at : tie.Need-mul-at
+mul-at c = let y = c .before .before .before .before .before .before .before .before .before .before in let x = y .args in let n = near-at (x .s) (x .node .now) (x .table .now) (x .i) (x .p) (x .post) (x .k) (x .owner) (y .pre .0) (x .b) (y .pre .1 .1 .1) (x .marks .now) (x .before) (y .pre .1 .0) _ _ (c .before .before .before .before .before .go-far .ensures) (c .before .before .if1 .left) in omega (arith, n .0, n .1, n .2, n .3, n .4, y .pre .0 .wide)
 
-add-long : tie.Need-add-long
-add-long c = search needs
+add-at : tie.Need-add-at
+add-at c = let y = c .before .before .before .before .before .before .before .before .before .before in let x = y .args in let n = near-at (x .s) (x .node .now) (x .table .now) (x .i) (x .p) (x .post) (x .k) (x .owner) (y .pre .0) (x .b) (y .pre .1 .1 .1) (x .marks .now) (x .before) (y .pre .1 .0) _ _ (c .before .before .before .before .before .go-far .ensures) (c .before .before .if1 .left) in omega (arith, n .0, n .1, n .2, n .3, n .4, y .pre .0 .wide)
 
-mul-long : tie.Need-mul-long
-mul-long c = search needs
+sub-at : tie.Need-sub-at
+sub-at c = omega (arith, c .before .before .before .before .before .before .before .before .before .before .before .pre .0 .wide)
 
-shared-slice-read-long : tie.Need-shared-slice-read-long
-shared-slice-read-long c = search needs
+sub-at-2 : tie.Need-sub-at-2
+sub-at-2 c = let y = c .before .before .before .before .before .before .before .before .before .before .before in let x = y .args in let n = near-at (x .s) (x .node .now) (x .table .now) (x .i) (x .p) (x .post) (x .k) (x .owner) (y .pre .0) (x .b) (y .pre .1 .1 .1) (x .marks .now) (x .before) (y .pre .1 .0) _ _ (c .before .before .before .before .before .before .go-far .ensures) (c .before .before .before .if1 .left) in omega (arith, n .0, n .1, n .2, n .3, n .4, y .pre .0 .wide)
 
-cast-long : tie.Need-cast-long
-cast-long c = omega (arith, c .shared-slice-known3 .given (c .before .block-at2 .result + 4))
+add-misfit : tie.Need-add-misfit
+add-misfit c = let y = c .before .before .before .before .before .before .before .before .before .before .before in let x = y .args in let n = near-at (x .s) (x .node .now) (x .table .now) (x .i) (x .p) (x .post) (x .k) (x .owner) (y .pre .0) (x .b) (y .pre .1 .1 .1) (x .marks .now) (x .before) (y .pre .1 .0) _ _ (c .before .before .before .before .before .before .go-far .ensures) (c .before .before .before .if1 .left) in omega (arith, n .0, n .1, n .2, n .3, n .4, y .pre .0 .wide)
 
-fits-length-requires : tie.Need-fits-length-requires
-fits-length-requires c κs = search needs
+mul-misfit : tie.Need-mul-misfit
+mul-misfit c = let y = c .before .before .before .before .before .before .before .before .before .before .before in let x = y .args in let n = near-at (x .s) (x .node .now) (x .table .now) (x .i) (x .p) (x .post) (x .k) (x .owner) (y .pre .0) (x .b) (y .pre .1 .1 .1) (x .marks .now) (x .before) (y .pre .1 .0) _ _ (c .before .before .before .before .before .before .go-far .ensures) (c .before .before .before .if1 .left) in omega (arith, n .0, n .1, n .2, n .3, n .4, y .pre .0 .wide)
+
+shared-slice-read-misfit : tie.Need-shared-slice-read-misfit
+shared-slice-read-misfit c = let y = c .before .before .before .before .before .before .before .before .before .before .before .before in let x = y .args in let n = near-at (x .s) (x .node .now) (x .table .now) (x .i) (x .p) (x .post) (x .k) (x .owner) (y .pre .0) (x .b) (y .pre .1 .1 .1) (x .marks .now) (x .before) (y .pre .1 .0) _ _ (c .before .before .before .before .before .before .before .go-far .ensures) (c .before .before .before .before .if1 .left) in omega (arith, n .0, n .1, n .2, n .3, n .4, y .pre .0 .wide)
+
+misfit-requires : tie.Need-misfit-requires
+misfit-requires c κs = search needs
+
+mul-astray : tie.Need-mul-astray
+mul-astray c = let y = c .before .before .before .before .before .before .before .before .before .before .before .before .before in let x = y .args in let n = near-at (x .s) (x .node .now) (x .table .now) (x .i) (x .p) (x .post) (x .k) (x .owner) (y .pre .0) (x .b) (y .pre .1 .1 .1) (x .marks .now) (x .before) (y .pre .1 .0) _ _ (c .before .before .before .before .before .before .before .before .go-far .ensures) (c .before .before .before .before .before .if1 .left) in omega (arith, n .0, n .1, n .2, n .3, n .4, y .pre .0 .wide)
+
+shared-slice-read-astray : tie.Need-shared-slice-read-astray
+shared-slice-read-astray c = let y = c .before .before .before .before .before .before .before .before .before .before .before .before .before .before in let x = y .args in let n = near-at (x .s) (x .node .now) (x .table .now) (x .i) (x .p) (x .post) (x .k) (x .owner) (y .pre .0) (x .b) (y .pre .1 .1 .1) (x .marks .now) (x .before) (y .pre .1 .0) _ _ (c .before .before .before .before .before .before .before .before .before .go-far .ensures) (c .before .before .before .before .before .before .if1 .left) in omega (arith, n .0, n .1, n .2, n .3, n .4, y .pre .0 .wide)
+
+add-astray : tie.Need-add-astray
+add-astray c = let y = c .before .before .before .before .before .before .before .before .before .before .before .before .before .before in let x = y .args in let n = near-at (x .s) (x .node .now) (x .table .now) (x .i) (x .p) (x .post) (x .k) (x .owner) (y .pre .0) (x .b) (y .pre .1 .1 .1) (x .marks .now) (x .before) (y .pre .1 .0) _ _ (c .before .before .before .before .before .before .before .before .before .go-far .ensures) (c .before .before .before .before .before .before .if1 .left) in omega (arith, n .0, n .1, n .2, n .3, n .4, y .pre .0 .wide)
+
+mul-astray-2 : tie.Need-mul-astray-2
+mul-astray-2 c = let y = c .before .before .before .before .before .before .before .before .before .before .before .before .before .before in let x = y .args in let n = near-at (x .s) (x .node .now) (x .table .now) (x .i) (x .p) (x .post) (x .k) (x .owner) (y .pre .0) (x .b) (y .pre .1 .1 .1) (x .marks .now) (x .before) (y .pre .1 .0) _ _ (c .before .before .before .before .before .before .before .before .before .go-far .ensures) (c .before .before .before .before .before .before .if1 .left) in omega (arith, n .0, n .1, n .2, n .3, n .4, y .pre .0 .wide)
+
+shared-slice-read-astray-2 : tie.Need-shared-slice-read-astray-2
+shared-slice-read-astray-2 c = let y = c .before .before .before .before .before .before .before .before .before .before .before .before .before .before .before in let x = y .args in let n = near-at (x .s) (x .node .now) (x .table .now) (x .i) (x .p) (x .post) (x .k) (x .owner) (y .pre .0) (x .b) (y .pre .1 .1 .1) (x .marks .now) (x .before) (y .pre .1 .0) _ _ (c .before .before .before .before .before .before .before .before .before .before .go-far .ensures) (c .before .before .before .before .before .before .before .if1 .left) in omega (arith, n .0, n .1, n .2, n .3, n .4, y .pre .0 .wide)
+
+add-astray-2 : tie.Need-add-astray-2
+add-astray-2 c = let y = c .before .before .before .before .before .before .before .before .before .before .before .before .before .before .before in let x = y .args in let n = near-at (x .s) (x .node .now) (x .table .now) (x .i) (x .p) (x .post) (x .k) (x .owner) (y .pre .0) (x .b) (y .pre .1 .1 .1) (x .marks .now) (x .before) (y .pre .1 .0) _ _ (c .before .before .before .before .before .before .before .before .before .before .go-far .ensures) (c .before .before .before .before .before .before .before .if1 .left) in omega (arith, n .0, n .1, n .2, n .3, n .4, y .pre .0 .wide)
+
+mul-astray-3 : tie.Need-mul-astray-3
+mul-astray-3 c = let y = c .before .before .before .before .before .before .before .before .before .before .before .before .before .before .before in let x = y .args in let n = near-at (x .s) (x .node .now) (x .table .now) (x .i) (x .p) (x .post) (x .k) (x .owner) (y .pre .0) (x .b) (y .pre .1 .1 .1) (x .marks .now) (x .before) (y .pre .1 .0) _ _ (c .before .before .before .before .before .before .before .before .before .before .go-far .ensures) (c .before .before .before .before .before .before .before .if1 .left) in omega (arith, n .0, n .1, n .2, n .3, n .4, y .pre .0 .wide)
+
+shared-slice-read-astray-3 : tie.Need-shared-slice-read-astray-3
+shared-slice-read-astray-3 c = let y = c .before .before .before .before .before .before .before .before .before .before .before .before .before .before .before .before in let x = y .args in let n = near-at (x .s) (x .node .now) (x .table .now) (x .i) (x .p) (x .post) (x .k) (x .owner) (y .pre .0) (x .b) (y .pre .1 .1 .1) (x .marks .now) (x .before) (y .pre .1 .0) _ _ (c .before .before .before .before .before .before .before .before .before .before .before .go-far .ensures) (c .before .before .before .before .before .before .before .before .if1 .left) in omega (arith, n .0, n .1, n .2, n .3, n .4, y .pre .0 .wide)
+
+add-astray-3 : tie.Need-add-astray-3
+add-astray-3 c = let y = c .before .before .before .before .before .before .before .before .before .before .before .before .before .before .before .before in let x = y .args in let n = near-at (x .s) (x .node .now) (x .table .now) (x .i) (x .p) (x .post) (x .k) (x .owner) (y .pre .0) (x .b) (y .pre .1 .1 .1) (x .marks .now) (x .before) (y .pre .1 .0) _ _ (c .before .before .before .before .before .before .before .before .before .before .before .go-far .ensures) (c .before .before .before .before .before .before .before .before .if1 .left) in omega (arith, n .0, n .1, n .2, n .3, n .4, y .pre .0 .wide)
+
+mul-astray-4 : tie.Need-mul-astray-4
+mul-astray-4 c = let y = c .before .before .before .before .before .before .before .before .before .before .before .before .before .before .before .before in let x = y .args in let n = near-at (x .s) (x .node .now) (x .table .now) (x .i) (x .p) (x .post) (x .k) (x .owner) (y .pre .0) (x .b) (y .pre .1 .1 .1) (x .marks .now) (x .before) (y .pre .1 .0) _ _ (c .before .before .before .before .before .before .before .before .before .before .before .go-far .ensures) (c .before .before .before .before .before .before .before .before .if1 .left) in omega (arith, n .0, n .1, n .2, n .3, n .4, y .pre .0 .wide)
+
+shared-slice-read-astray-4 : tie.Need-shared-slice-read-astray-4
+shared-slice-read-astray-4 c = let y = c .before .before .before .before .before .before .before .before .before .before .before .before .before .before .before .before .before in let x = y .args in let n = near-at (x .s) (x .node .now) (x .table .now) (x .i) (x .p) (x .post) (x .k) (x .owner) (y .pre .0) (x .b) (y .pre .1 .1 .1) (x .marks .now) (x .before) (y .pre .1 .0) _ _ (c .before .before .before .before .before .before .before .before .before .before .before .before .go-far .ensures) (c .before .before .before .before .before .before .before .before .before .if1 .left) in omega (arith, n .0, n .1, n .2, n .3, n .4, y .pre .0 .wide)
+
+astray-requires : tie.Need-astray-requires
+astray-requires c κs = search needs
 
 same-length-2 : tie.Need-same-length-2
 same-length-2 c = search needs
 
 returns-2 : tie.Need-returns-2
-returns-2 c = let y = c .before .before .before .before .before .before .before .before .before .before .before .before .before .before in let x = y .args in let at = ap (λ n. n - 1) (c .before .before .before .before .before .before .before .before .before .before .block-at .ensures .is) in near-short (x .s) (x .node .now) (x .table .now) (x .i) (x .p) (x .post) (x .k) (x .owner) (y .pre .0) (x .b) (y .pre .1 .1) (x .marks .now) _ at _ _ (c .before .before .before .before .before .before .before .before .go-far .ensures) (c .before .before .before .before .before .if1 .left) _ (c .before .before .before .block-at2 .ensures .is) _ (c .before .fits-length .ensures) (not-true _ (c .if2 .taken))
-
-mul-is-near-head : tie.Need-mul-is-near-head
-mul-is-near-head c = search needs
-
-shared-slice-read-is-near-head : tie.Need-shared-slice-read-is-near-head
-shared-slice-read-is-near-head c = search needs
-
-add-is-near-head : tie.Need-add-is-near-head
-add-is-near-head c = search needs
-
-mul-is-near-head-2 : tie.Need-mul-is-near-head-2
-mul-is-near-head-2 c = search needs
-
-shared-slice-read-is-near-head-2 : tie.Need-shared-slice-read-is-near-head-2
-shared-slice-read-is-near-head-2 c = search needs
-
-add-is-near-head-2 : tie.Need-add-is-near-head-2
-add-is-near-head-2 c = search needs
-
-mul-is-near-head-3 : tie.Need-mul-is-near-head-3
-mul-is-near-head-3 c = search needs
-
-shared-slice-read-is-near-head-3 : tie.Need-shared-slice-read-is-near-head-3
-shared-slice-read-is-near-head-3 c = search needs
-
-add-is-near-head-3 : tie.Need-add-is-near-head-3
-add-is-near-head-3 c = search needs
-
-mul-is-near-head-4 : tie.Need-mul-is-near-head-4
-mul-is-near-head-4 c = search needs
-
-shared-slice-read-is-near-head-4 : tie.Need-shared-slice-read-is-near-head-4
-shared-slice-read-is-near-head-4 c = search needs
-
-is-near-head-requires : tie.Need-is-near-head-requires
-is-near-head-requires c κs = search needs
-
-same-length-3 : tie.Need-same-length-3
-same-length-3 c = search needs
-
-returns-3 : tie.Need-returns-3
-returns-3 c = let y = c .before .before .before .before .before .before .before .before .before .before .before .before .before .before .before .before .before .before .before in let x = y .args in let at = ap (λ n. n - 1) (c .before .before .before .before .before .before .before .before .before .before .before .before .before .before .before .block-at .ensures .is) in near-head (x .s) (x .node .now) (x .table .now) (x .i) (x .p) (x .post) (x .k) (x .owner) (y .pre .0) (x .b) (y .pre .1 .1) (x .marks .now) _ at _ _ (c .before .before .before .before .before .before .before .before .before .before .before .before .before .go-far .ensures) (c .before .before .before .before .before .before .before .before .before .before .if1 .left) _ (c .before .before .before .before .before .before .before .before .block-at2 .ensures .is) _ (c .before .before .before .before .before .before .fits-length .ensures) (not-false _ (c .before .before .before .before .before .if2 .left)) _ (c .is-near-head .ensures)
+returns-2 c = let y = c .before .before .before .before .before .before .before .before .before .before .before .before .before .before .before .before .before .before in let x = y .args in let n = near-at (x .s) (x .node .now) (x .table .now) (x .i) (x .p) (x .post) (x .k) (x .owner) (y .pre .0) (x .b) (y .pre .1 .1 .1) (x .marks .now) (x .before) (y .pre .1 .0) _ _ (c .before .before .before .before .before .before .before .before .before .before .before .before .before .go-far .ensures) (c .before .before .before .before .before .before .before .before .before .before .if1 .left) in near-told (x .s) (x .node .now) (x .table .now) (x .i) (x .p) (x .post) (x .k) (x .owner) (y .pre .0) (x .b) (y .pre .1 .1 .1) (x .marks .now) (x .before) (y .pre .1 .0) _ _ (c .before .before .before .before .before .before .before .before .before .before .before .before .before .go-far .ensures) (c .before .before .before .before .before .before .before .before .before .before .if1 .left) _ (n .0) (c .before .before .before .before .before .misfit .result) (c .astray .result) (c .before .before .before .before .before .misfit .ensures) (c .astray .ensures)
 
 pub is-right-near-spec : {M : Type 1} → statement M
 is-right-near-spec =
     tie.close
     (tie.spec
-    block-at-requires
-    sub-before
     go-far-requires
     same-length
     returns
     sub-count
     sub-count-2
-    block-at-requires-2
-    add-long
-    mul-long
-    shared-slice-read-long
-    cast-long
-    fits-length-requires
+    mul-at
+    add-at
+    sub-at
+    sub-at-2
+    add-misfit
+    mul-misfit
+    shared-slice-read-misfit
+    misfit-requires
+    mul-astray
+    shared-slice-read-astray
+    add-astray
+    mul-astray-2
+    shared-slice-read-astray-2
+    add-astray-2
+    mul-astray-3
+    shared-slice-read-astray-3
+    add-astray-3
+    mul-astray-4
+    shared-slice-read-astray-4
+    astray-requires
     same-length-2
-    returns-2
-    mul-is-near-head
-    shared-slice-read-is-near-head
-    add-is-near-head
-    mul-is-near-head-2
-    shared-slice-read-is-near-head-2
-    add-is-near-head-2
-    mul-is-near-head-3
-    shared-slice-read-is-near-head-3
-    add-is-near-head-3
-    mul-is-near-head-4
-    shared-slice-read-is-near-head-4
-    is-near-head-requires
-    same-length-3
-    returns-3)
+    returns-2)

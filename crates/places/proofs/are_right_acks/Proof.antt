@@ -21,10 +21,10 @@ use Rattle.places.proofs.are_right_acks.Statement.{statement}
 use Rattle.places.proofs.are_right_acks.Tie as tie
 
 abbrev Inv-loop : tie.InvT-loop
-Inv-loop memory node s table seats marks₀ i kind size q k₀ marks k = (k ≤ 6) × (length marks ≡ length marks₀) × (every k (rightAt s memory node table i 7 marks₀) ≡ true) × (marks ≡ marked marks₀ (standingFrom s memory i 7 k))
+Inv-loop memory node s before table seats marks₀ i kind size q k₀ marks k = (k ≤ 6) × (length marks ≡ length marks₀) × (every k (rightAt s memory node table i 7 marks₀) ≡ true) × (marks ≡ marked marks₀ (standingFrom s memory i 7 k))
 
 abbrev μ-loop : tie.MeasureT-loop
-μ-loop memory node s table seats marks₀ i kind size q k₀ marks k = 6 - k
+μ-loop memory node s before table seats marks₀ i kind size q k₀ marks k = 6 - k
 
 ack-kind-requires : tie.Need-ack-kind-requires Inv-loop μ-loop
 ack-kind-requires c κs = search needs
@@ -105,10 +105,10 @@ cast-is-filled-post : tie.Need-cast-is-filled-post Inv-loop μ-loop
 cast-is-filled-post c = omega (arith, c .before .before .before .before .before .before .before .loop-test .taken)
 
 is-filled-post-requires : tie.Need-is-filled-post-requires Inv-loop μ-loop
-is-filled-post-requires c κs = let y = c .before .before .before .before .before .before .before .before .before .before .before .before .before .before .before .before .before in let x = y .args in let t = c .before .before .before .before .before .before .before .before .loop in (placed-ack (x .s) _ (other-stretch (x .s) (x .memory .now) (x .node .now) (x .table .now) (x .seats .now) (x .i) (y .pre .0) (t .k) (ackKind (x .s)) 0 _ (c .before .before .before .before .before .before .before .loop-test .taken) (node-lent (x .s) (x .memory .now) (t .k) _ _ (c .before .before .before .before .before .before .node-at .ensures .is) (c .before .before .before .before .before .before .before .before .before .before .node-size .ensures .is))) _ _ (c .before .before .before .before .before .before .before .before .before .before .before .ack-kind .ensures) (c .before .before .before .before .before .before .before .before .before .ack-at .ensures .fits), (lent-placing (x .s) (x .memory .now) (x .node .now) (x .table .now) (x .seats .now) (x .i) (y .pre .0) (7 + t .k) (omega (arith, c .before .before .before .before .before .before .before .loop-test .taken)), (aim-ack (x .table .now) (x .i) (t .k) (c .before .before .before .before .before .before .before .loop-test .taken), omega (arith, y .pre .1, t .inv .1))))
+is-filled-post-requires c κs = let y = c .before .before .before .before .before .before .before .before .before .before .before .before .before .before .before .before .before in let x = y .args in let t = c .before .before .before .before .before .before .before .before .loop in (placed-ack (x .s) _ (other-stretch (x .s) (x .memory .now) (x .node .now) (x .table .now) (x .seats .now) (x .i) (y .pre .0) (t .k) (ackKind (x .s)) 0 _ (c .before .before .before .before .before .before .before .loop-test .taken) (node-lent (x .s) (x .memory .now) (t .k) _ _ (c .before .before .before .before .before .before .node-at .ensures .is) (c .before .before .before .before .before .before .before .before .before .before .node-size .ensures .is))) _ _ (c .before .before .before .before .before .before .before .before .before .before .before .ack-kind .ensures) (c .before .before .before .before .before .before .before .before .before .ack-at .ensures .fits), (lent-placing (x .s) (x .memory .now) (x .node .now) (x .table .now) (x .seats .now) (x .i) (y .pre .0) (y .pre .1 .0) (7 + t .k) (omega (arith, c .before .before .before .before .before .before .before .loop-test .taken)), (aim-ack (x .table .now) (x .i) (t .k) (c .before .before .before .before .before .before .before .loop-test .taken), (y .pre .1 .1 .0, omega (arith, y .pre .1 .1 .1, t .inv .1)))))
 
 same-length-3 : tie.Need-same-length-3 Inv-loop μ-loop
-same-length-3 c = c .before .before .before .is-filled-post .kept .1 .1 .1 .1 .1 .1 .1 .0 ∙ c .before .before .before .before .before .before .before .before .before .before .before .before .loop .inv .1
+same-length-3 c = c .before .before .before .is-filled-post .kept .1 .1 .1 .1 .1 .1 .1 .1 .0 ∙ c .before .before .before .before .before .before .before .before .before .before .before .before .loop .inv .1
 
 returns-3 : tie.Need-returns-3 Inv-loop μ-loop
 returns-3 c = let y = c .before .before .before .before .before .before .before .before .before .before .before .before .before .before .before .before .before .before .before .before .before in let x = y .args in let t = c .before .before .before .before .before .before .before .before .before .before .before .before .loop in range-bad (x .s) (x .memory .now) (x .node .now) (x .table .now) (x .seats .now) (x .i) (y .pre .0) 7 (x .marks .now) (t .marks) (t .k) (t .inv .2) (t .inv .3) _ _ (place-judged (x .s) (x .memory .now) (x .node .now) (x .table .now) (x .i) (7 + t .k) _ _ _ (ack-stands (x .s) (x .memory .now) (x .node .now) (x .table .now) (x .seats .now) (x .i) (y .pre .0) (t .k) _ _ _ (c .before .before .before .before .before .before .before .before .before .before .before .loop-test .taken) (node-lent (x .s) (x .memory .now) (t .k) _ _ (c .before .before .before .before .before .before .before .before .before .before .node-at .ensures .is) (c .before .before .before .before .before .before .before .before .before .before .before .before .before .before .node-size .ensures .is)) (c .before .before .before .before .before .before .before .before .before .before .before .before .before .before .before .ack-kind .ensures) (c .before .before .before .before .before .before .before .before .before .before .before .before .before .ack-at .ensures .is)) _ (other-post (x .s) (x .memory .now) (x .i) (7 + t .k) _ _ _ (eqb (x .i) (t .k)) (ack-rule (x .s) (x .memory .now) (x .node .now) (x .table .now) (x .seats .now) (x .i) (y .pre .0) (t .k) _ _ _ (c .before .before .before .before .before .before .before .before .before .before .before .loop-test .taken) (node-lent (x .s) (x .memory .now) (t .k) _ _ (c .before .before .before .before .before .before .before .before .before .before .node-at .ensures .is) (c .before .before .before .before .before .before .before .before .before .before .before .before .before .before .node-size .ensures .is)) (c .before .before .before .before .before .before .before .before .before .before .before .before .before .before .before .ack-kind .ensures) (c .before .before .before .before .before .before .before .before .before .before .before .before .before .ack-at .ensures .is)) (ne-eqb (x .i) (t .k) (λ e. c .before .before .before .before .before .before .if3 .left (sym e)))) (t .marks) _ _ (c .before .before .before .is-filled-post .ensures)) 6 (c .before .before .before .before .before .before .before .before .before .before .before .loop-test .taken) (not-true _ (c .if4 .taken))
@@ -120,7 +120,7 @@ loop-less : tie.Need-loop-less Inv-loop μ-loop
 loop-less c = search needs
 
 loop-again : tie.Need-loop-again Inv-loop μ-loop
-loop-again c = let y = c .before .before .before .before .before .before .before .before .before .before .before .before .before .before in let x = y .args in let t = c .before .before .before .before .before .loop in let h = c .before .before .before .before .loop-test .taken in ⊎-elim (λ w. let z = none _ _ (c .before .is-empty .ensures) (w .0 .taken) in let f = sym (empty-post (x .s) (x .memory .now) (x .i) (7 + t .k) _ _ _ (eqb (x .i) (t .k)) (ack-rule (x .s) (x .memory .now) (x .node .now) (x .table .now) (x .seats .now) (x .i) (y .pre .0) (t .k) _ _ _ (c .before .before .before .before .loop-test .taken) (node-lent (x .s) (x .memory .now) (t .k) _ _ (c .before .before .before .node-at .ensures .is) (c .before .before .before .before .before .before .before .node-size .ensures .is)) (c .before .before .before .before .before .before .before .before .ack-kind .ensures) (c .before .before .before .before .before .before .ack-at .ensures .is)) z _ (w .2 .ensures)) ∙ not-false _ (w .3 .left) in let n = range-none (x .s) (x .memory .now) (x .node .now) (x .table .now) (x .seats .now) (x .i) (y .pre .0) 7 (x .marks .now) (t .marks) (t .k) (t .inv .2) (t .inv .3) f (place-none (x .s) (x .memory .now) (x .node .now) (x .table .now) (x .i) (7 + t .k) _ _ _ (ack-stands (x .s) (x .memory .now) (x .node .now) (x .table .now) (x .seats .now) (x .i) (y .pre .0) (t .k) _ _ _ (c .before .before .before .before .loop-test .taken) (node-lent (x .s) (x .memory .now) (t .k) _ _ (c .before .before .before .node-at .ensures .is) (c .before .before .before .before .before .before .before .node-size .ensures .is)) (c .before .before .before .before .before .before .before .before .ack-kind .ensures) (c .before .before .before .before .before .before .ack-at .ensures .is)) z f) in (omega (arith, h), ap length (w .4) ∙ t .inv .1, n .0, w .4 ∙ n .1)) (λ w. let n = range-next (x .s) (x .memory .now) (x .node .now) (x .table .now) (x .seats .now) (x .i) (y .pre .0) 7 (x .marks .now) (t .marks) (t .k) (t .inv .2) (t .inv .3) _ _ (place-judged (x .s) (x .memory .now) (x .node .now) (x .table .now) (x .i) (7 + t .k) _ _ _ (ack-stands (x .s) (x .memory .now) (x .node .now) (x .table .now) (x .seats .now) (x .i) (y .pre .0) (t .k) _ _ _ (c .before .before .before .before .loop-test .taken) (node-lent (x .s) (x .memory .now) (t .k) _ _ (c .before .before .before .node-at .ensures .is) (c .before .before .before .before .before .before .before .node-size .ensures .is)) (c .before .before .before .before .before .before .before .before .ack-kind .ensures) (c .before .before .before .before .before .before .ack-at .ensures .is)) _ (other-post (x .s) (x .memory .now) (x .i) (7 + t .k) _ _ _ (eqb (x .i) (t .k)) (ack-rule (x .s) (x .memory .now) (x .node .now) (x .table .now) (x .seats .now) (x .i) (y .pre .0) (t .k) _ _ _ (c .before .before .before .before .loop-test .taken) (node-lent (x .s) (x .memory .now) (t .k) _ _ (c .before .before .before .node-at .ensures .is) (c .before .before .before .before .before .before .before .node-size .ensures .is)) (c .before .before .before .before .before .before .before .before .ack-kind .ensures) (c .before .before .before .before .before .before .ack-at .ensures .is)) (ne-eqb (x .i) (t .k) (λ e. w .1 .left (sym e)))) (t .marks) _ _ (w .4 .ensures)) (not-false _ (w .7 .left)) in (omega (arith, h), ap length (w .8) ∙ w .4 .kept .1 .1 .1 .1 .1 .1 .1 .0 ∙ t .inv .1, n .0, w .8 ∙ n .1)) (c .if1 .came)
+loop-again c = let y = c .before .before .before .before .before .before .before .before .before .before .before .before .before .before in let x = y .args in let t = c .before .before .before .before .before .loop in let h = c .before .before .before .before .loop-test .taken in ⊎-elim (λ w. let z = none _ _ (c .before .is-empty .ensures) (w .0 .taken) in let f = sym (empty-post (x .s) (x .memory .now) (x .i) (7 + t .k) _ _ _ (eqb (x .i) (t .k)) (ack-rule (x .s) (x .memory .now) (x .node .now) (x .table .now) (x .seats .now) (x .i) (y .pre .0) (t .k) _ _ _ (c .before .before .before .before .loop-test .taken) (node-lent (x .s) (x .memory .now) (t .k) _ _ (c .before .before .before .node-at .ensures .is) (c .before .before .before .before .before .before .before .node-size .ensures .is)) (c .before .before .before .before .before .before .before .before .ack-kind .ensures) (c .before .before .before .before .before .before .ack-at .ensures .is)) z _ (w .2 .ensures)) ∙ not-false _ (w .3 .left) in let n = range-none (x .s) (x .memory .now) (x .node .now) (x .table .now) (x .seats .now) (x .i) (y .pre .0) 7 (x .marks .now) (t .marks) (t .k) (t .inv .2) (t .inv .3) f (place-none (x .s) (x .memory .now) (x .node .now) (x .table .now) (x .i) (7 + t .k) _ _ _ (ack-stands (x .s) (x .memory .now) (x .node .now) (x .table .now) (x .seats .now) (x .i) (y .pre .0) (t .k) _ _ _ (c .before .before .before .before .loop-test .taken) (node-lent (x .s) (x .memory .now) (t .k) _ _ (c .before .before .before .node-at .ensures .is) (c .before .before .before .before .before .before .before .node-size .ensures .is)) (c .before .before .before .before .before .before .before .before .ack-kind .ensures) (c .before .before .before .before .before .before .ack-at .ensures .is)) z f) in (omega (arith, h), ap length (w .4) ∙ t .inv .1, n .0, w .4 ∙ n .1)) (λ w. let n = range-next (x .s) (x .memory .now) (x .node .now) (x .table .now) (x .seats .now) (x .i) (y .pre .0) 7 (x .marks .now) (t .marks) (t .k) (t .inv .2) (t .inv .3) _ _ (place-judged (x .s) (x .memory .now) (x .node .now) (x .table .now) (x .i) (7 + t .k) _ _ _ (ack-stands (x .s) (x .memory .now) (x .node .now) (x .table .now) (x .seats .now) (x .i) (y .pre .0) (t .k) _ _ _ (c .before .before .before .before .loop-test .taken) (node-lent (x .s) (x .memory .now) (t .k) _ _ (c .before .before .before .node-at .ensures .is) (c .before .before .before .before .before .before .before .node-size .ensures .is)) (c .before .before .before .before .before .before .before .before .ack-kind .ensures) (c .before .before .before .before .before .before .ack-at .ensures .is)) _ (other-post (x .s) (x .memory .now) (x .i) (7 + t .k) _ _ _ (eqb (x .i) (t .k)) (ack-rule (x .s) (x .memory .now) (x .node .now) (x .table .now) (x .seats .now) (x .i) (y .pre .0) (t .k) _ _ _ (c .before .before .before .before .loop-test .taken) (node-lent (x .s) (x .memory .now) (t .k) _ _ (c .before .before .before .node-at .ensures .is) (c .before .before .before .before .before .before .before .node-size .ensures .is)) (c .before .before .before .before .before .before .before .before .ack-kind .ensures) (c .before .before .before .before .before .before .ack-at .ensures .is)) (ne-eqb (x .i) (t .k) (λ e. w .1 .left (sym e)))) (t .marks) _ _ (w .4 .ensures)) (not-false _ (w .7 .left)) in (omega (arith, h), ap length (w .8) ∙ w .4 .kept .1 .1 .1 .1 .1 .1 .1 .1 .0 ∙ t .inv .1, n .0, w .8 ∙ n .1)) (c .if1 .came)
 
 same-length-4 : tie.Need-same-length-4 Inv-loop μ-loop
 same-length-4 c = search needs

@@ -31,7 +31,7 @@ shared-slice-read-is-right-letter : tie.Need-shared-slice-read-is-right-letter
 shared-slice-read-is-right-letter c = let y = c .before .before .before .before .before .before .before .before .before in omega (arith, y .pre .0 .small, y .pre .0 .looked .sized .long, nodes-fit (y .args .s))
 
 is-right-letter-requires : tie.Need-is-right-letter-requires
-is-right-letter-requires c κs = let y = c .before .before .before .before .before .before .before .before .before in let x = y .args in (lent-placing (x .s) (x .memory .now) (x .node .now) (x .table .now) (x .seats .now) (x .i) (y .pre .0) 0 (omega arith), y .pre .1)
+is-right-letter-requires c κs = let y = c .before .before .before .before .before .before .before .before .before in let x = y .args in (lent-placing (x .s) (x .memory .now) (x .node .now) (x .table .now) (x .seats .now) (x .i) (y .pre .0) (y .pre .1 .0) 0 (omega arith), y .pre .1 .1)
 
 same-length : tie.Need-same-length
 same-length c = search needs

@@ -16,7 +16,7 @@ returns : tie.Need-returns
 returns c = let y = c .before .before .before .before .before .before .before in let x = y .args in links-no (x .s) (x .memory .now) (x .i) (x .node .now) (y .pre .0 .stretch) (sym (c .before .are-links-low .ensures) ∙ not-true _ (c .if1 .taken))
 
 is-right-free-requires : tie.Need-is-right-free-requires
-is-right-free-requires c κs = let y = c .before .before .before .before .before .before .before .before in let x = y .args in (lent-stretch (x .s) (x .memory .now) (x .node .now) (x .table .now) (x .seats .now) (x .i) (y .pre .0), omega (arith, y .pre .1 .long, y .pre .0 .looked .sized .range .m .high))
+is-right-free-requires c κs = let y = c .before .before .before .before .before .before .before .before in let x = y .args in (lent-stretch (x .s) (x .memory .now) (x .node .now) (x .table .now) (x .seats .now) (x .i) (y .pre .0), (sym (c .before .before .are-links-low .ensures) ∙ not-false _ (c .before .if1 .left), y .pre .1 .long))
 
 same-length : tie.Need-same-length
 same-length c = search needs
@@ -25,7 +25,7 @@ returns-2 : tie.Need-returns-2
 returns-2 c = let y = c .before .before .before .before .before .before .before .before .before .before .before .before in let x = y .args in free-no (x .s) (x .memory .now) (x .node .now) (x .table .now) (x .seats .now) (x .i) (y .pre .0) (x .marks .now) (y .pre .1) (sym (c .before .before .before .is-right-free .ensures .is) ∙ not-true _ (c .if2 .taken))
 
 are-right-places-requires : tie.Need-are-right-places-requires
-are-right-places-requires c κs = let y = c .before .before .before .before .before .before .before .before .before .before .before .before .before in (y .pre .0, omega (arith, y .pre .1 .long, y .pre .0 .looked .sized .range .m .high, c .before .before .before .before .is-right-free .kept .1 .1 .0))
+are-right-places-requires c κs = let y = c .before .before .before .before .before .before .before .before .before .before .before .before .before in (y .pre .0, (sym (c .before .before .before .before .before .before .before .are-links-low .ensures) ∙ not-false _ (c .before .before .before .before .before .before .if1 .left), omega (arith, y .pre .1 .long, y .pre .0 .looked .sized .range .m .high, c .before .before .before .before .is-right-free .kept .1 .1 .0)))
 
 same-length-2 : tie.Need-same-length-2
 same-length-2 c = search needs

@@ -1,8 +1,5 @@
 -- `shapes::bits_of_four` meets its contract. Assumes nothing.
-use Rattle.shapes.proofs.Clear.{few-ends}
-use native.Mathlib.Omega.{arith}
-use Prim.Native.Nat.{_+_, _-_}
-use mathlib.Core.Path.{_≡_}
+use Rattle.shapes.proofs.Clear.{few-twice}
 use borrow.Author.Needs.{needs}
 use Rattle.shapes.proofs.bits_of_four.Statement.{statement}
 use Rattle.shapes.proofs.bits_of_four.Tie as tie
@@ -17,7 +14,7 @@ bits-of-two-requires-2 : tie.Need-bits-of-two-requires-2
 bits-of-two-requires-2 c κs = search needs
 
 returns : tie.Need-returns
-returns c = let x = c .before .before .before .args in let d : x .a + 2 ≡ x .a + 4 - 2 = omega arith in few-ends (x .node .now) (x .a) (x .a + 4) 2 (c .before .bits-of-two .result) (c .bits-of-two2 .result) (omega arith) (omega arith) (c .before .bits-of-two .ensures) (rw d at (c .bits-of-two2 .ensures))
+returns c = let x = c .before .before .before .args in few-twice (x .node .now) (x .a) 2 (c .before .bits-of-two .result) (c .bits-of-two2 .result) (c .before .bits-of-two .ensures) (c .bits-of-two2 .ensures)
 
 pub bits-of-four-spec : {M : Type 1} → statement M
 bits-of-four-spec =
