@@ -199,6 +199,44 @@ fn are_right_queues(
     true
 }
 
+// The six send queues and their letters, places 1 to 6.
+fn are_right_sends(
+    memory: &[u32],
+    node: &[u32],
+    s: Settings,
+    before: usize,
+    table: &[u32],
+    seats: &[u32],
+    marks: &mut [u8],
+    i: usize,
+) -> bool
+    requires { ⌜ Lent s (now memory) (now node) (now table) (now seats) i ⌝ }
+    requires { ⌜ linksLow s (now node) ≡ true ⌝ }
+    requires { ⌜ before ≡ blockAt s 1 - 1 ⌝ }
+    requires { ⌜ s .m < length (now marks) ⌝ }
+    ensures { λ r. ⌜ Judged (rangeRight s (now (memory .entry)) i 1 6 (now (marks .entry))) (marked (now (marks .entry)) (standingFrom s (now (memory .entry)) i 1 6)) r (now (marks .exit)) ⌝ }
+{
+    let kind = queues::send_kind(s);
+    let at = layout::send_at(s, 0);
+    let step = 3 + s.s;
+    are_right_queues(
+        memory,
+        node,
+        s,
+        before,
+        table,
+        seats,
+        marks,
+        i,
+        kind,
+        at,
+        step,
+        1,
+        6,
+        true,
+    )
+}
+
 // Acknowledge queue i on the six nodes and its letters, places 7 to 12.
 fn are_right_acks(
     memory: &[u32],
@@ -253,6 +291,44 @@ fn are_right_acks(
     true
 }
 
+// The 64 task queues and their letters, places 13 to 76.
+fn are_right_tasks(
+    memory: &[u32],
+    node: &[u32],
+    s: Settings,
+    before: usize,
+    table: &[u32],
+    seats: &[u32],
+    marks: &mut [u8],
+    i: usize,
+) -> bool
+    requires { ⌜ Lent s (now memory) (now node) (now table) (now seats) i ⌝ }
+    requires { ⌜ linksLow s (now node) ≡ true ⌝ }
+    requires { ⌜ before ≡ blockAt s 1 - 1 ⌝ }
+    requires { ⌜ s .m < length (now marks) ⌝ }
+    ensures { λ r. ⌜ Judged (rangeRight s (now (memory .entry)) i 13 64 (now (marks .entry))) (marked (now (marks .entry)) (standingFrom s (now (memory .entry)) i 13 64)) r (now (marks .exit)) ⌝ }
+{
+    let kind = queues::task_kind(s);
+    let at = layout::task_at(s, 0);
+    let step = 5 + s.t;
+    are_right_queues(
+        memory,
+        node,
+        s,
+        before,
+        table,
+        seats,
+        marks,
+        i,
+        kind,
+        at,
+        step,
+        13,
+        64,
+        false,
+    )
+}
+
 // The queues and the letters at the 77 places of node i: its send queues, acknowledge queue i on the six nodes, its task queues.
 fn are_right_places(
     memory: &[u32],
@@ -272,47 +348,13 @@ fn are_right_places(
         return false;
     }
     let before = layout::block_at(s, 1) - 1;
-    let sends = queues::send_kind(s);
-    let send = layout::send_at(s, 0);
-    if !are_right_queues(
-        memory,
-        node,
-        s,
-        before,
-        table,
-        seats,
-        marks,
-        i,
-        sends,
-        send,
-        3 + s.s,
-        1,
-        6,
-        true,
-    ) {
+    if !are_right_sends(memory, node, s, before, table, seats, marks, i) {
         return false;
     }
     if !are_right_acks(memory, node, s, before, table, seats, marks, i) {
         return false;
     }
-    let tasks = queues::task_kind(s);
-    let task = layout::task_at(s, 0);
-    are_right_queues(
-        memory,
-        node,
-        s,
-        before,
-        table,
-        seats,
-        marks,
-        i,
-        tasks,
-        task,
-        5 + s.t,
-        13,
-        64,
-        false,
-    )
+    are_right_tasks(memory, node, s, before, table, seats, marks, i)
 }
 
 // The free list.
