@@ -1,11 +1,11 @@
 -- The row of seats: after n ids each seat's word is the last of them that sits there. Assumes nothing.
-use mathlib.Core.Path.{_≡_, refl, _∙_}
+use mathlib.Core.Path.{_≡_, _∙_}
 use mathlib.Core.Bool.{true, false}
 use mathlib.Core.List.{List}
 use Prim.Native.Nat.{ℕ, zero, suc, _+_, _≤_, _<_}
 use native.Mathlib.Numerals.{add-one}
 use native.Mathlib.Omega.{arith}
-use lib.ListN.{length, getD, getD-replicate, length-set}
+use lib.ListN.{length, getD, set, length-set}
 use lib.Seq.{getD-set-same, getD-set-other}
 use borrow.Author.Tests.{lt-ltb, not-false}
 use Rattle.words.proofs.Lists.{split, same?}
@@ -13,6 +13,7 @@ use Rattle.layout.specs.Places.{taskIds}
 use Rattle.tasks.specs.Table.{nodeOf, queueOf, holdsNone, isBound, rightTable}
 use Rattle.tasks.specs.Seat.{seatAt, wordOf, putOn, seatRow}
 use Rattle.tasks.proofs.Laws.{seat-within, word-seat, word-none}
+use Rattle.tasks.proofs.Bars.{free-long, free-seat}
 use Rattle.sound.specs.Queues.{sitter}
 use Rattle.shapes.specs.Seats.{Seats}
 
@@ -24,7 +25,7 @@ pub record SeatsTo (t : List ℕ) (n : ℕ) (l : List ℕ) : Type 0 where
 module _ (t : List ℕ) where
   seats-none : SeatsTo t 0 (seatRow t 0)
   unfolding sitter seatRow
-  seats-none = record { long = refl; is = λ i q h k. getD-replicate 512 (seatAt i q) 0 0 (omega arith) }
+  seats-none = record { long = free-long; is = λ i q h k. free-seat (seatAt i q) (omega arith) }
 
   -- an id below 256 that is not bound holds 255, 0
   not-bound : (n : ℕ) → n < taskIds → isBound t n ≡ false → holdsNone t n ≡ true
@@ -37,9 +38,10 @@ module _ (t : List ℕ) where
       let z = g .long in
       let m = nodeOf t n in
       let p = queueOf t n in
+      let put = set l (wordOf t n) n in
       record {
-        long = length-set l (wordOf t n) n ∙ z;
-        is = λ i q h k. rw (add-one n) (split (isBound t n)
+        long = length-set put 448 15872 ∙ length-set l (wordOf t n) n ∙ z;
+        is = λ i q h k. getD-set-other put 448 (seatAt i q) 15872 0 (λ o. omega arith) ∙ rw (add-one n) (split (isBound t n)
             (λ e.
             let w = seat-within t n r e in
             rw (e, word-seat t n w)

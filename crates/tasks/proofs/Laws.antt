@@ -1,14 +1,13 @@
 -- The task table's rule and the seats, by the tests on the way. Assumes nothing.
-use mathlib.Core.Path.{_≡_, refl, sym, ap, _∙_}
-use mathlib.Core.Bool.{Bool, true, false, cond, _&&_, _||_, not}
+use mathlib.Core.Path.{_≡_, refl}
+use mathlib.Core.Bool.{Bool, true, false, _&&_, _||_, not}
 use mathlib.Core.List.{List}
-use Prim.Native.Nat.{ℕ, _%_, _≤_, _<_}
+use Prim.Native.Nat.{ℕ, _≤_, _<_}
 use lib.ListN.{length}
 use native.Mathlib.Nat.{mod-lt, mod-eq-of-lt}
 use native.Mathlib.Omega.{arith}
 use lib.Dec.{ltb, leb, eqb}
 use borrow.Author.Tests.{lt-ltb, le-ltb, ltb-true, leb-true, eq-eqb, ne-eqb, eqb-true, not-true}
-use Rattle.words.specs.Words.{every}
 use Rattle.words.proofs.Lists.{and-false, and-true, every-at, told-no, told-yes}
 use Rattle.layout.specs.Places.{taskIds, tableWords}
 use Rattle.tasks.specs.Table.{nodeOf, queueOf, holdsNone, isBound, hasSeat, seated, apart, rightTable}
@@ -78,10 +77,7 @@ module _ (t : List ℕ) (id : ℕ) where
 
   -- ---- the word that an id is put at
   pub word-seat : (nodeOf t id ≤ 5) × (queueOf t id ≤ 63) → wordOf t id ≡ seatAt (nodeOf t id) (queueOf t id)
-  word-seat h =
-      let x : nodeOf t id % 8 ≡ nodeOf t id = mod-eq-of-lt (omega arith) in
-      let y : queueOf t id % 64 ≡ queueOf t id = mod-eq-of-lt (omega arith) in
-      rw (x, y)
+  word-seat h = mod-eq-of-lt (omega arith)
 
   pub word-none : holdsNone t id ≡ true → wordOf t id ≡ 448
   unfolding holdsNone
@@ -90,4 +86,4 @@ module _ (t : List ℕ) (id : ℕ) where
       rw (eqb-true (nodeOf t id) 255 (w .0), eqb-true (queueOf t id) 0 (w .1))
 
   pub word-low : wordOf t id < 512
-  word-low = omega (arith, mod-lt (nodeOf t id) {m = 8} (omega arith), mod-lt (queueOf t id) {m = 64} (omega arith))
+  word-low = mod-lt (seatAt (nodeOf t id) (queueOf t id)) {m = 512} (omega arith)
