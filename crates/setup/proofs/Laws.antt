@@ -2,30 +2,34 @@
 use mathlib.Core.Path.{_≡_, refl, sym, ap, _∙_}
 use mathlib.Core.List.{List, [], _∷_, _++_, append-nil, append-assoc}
 use Prim.Native.Nat.{ℕ, zero, suc, _+_, _-_, _*_, _≤_, _<_}
-use native.Mathlib.Nat.{suc-mul, zero-mul, add-sub-cancel}
+use native.Mathlib.Nat.{suc-mul, zero-mul, add-mul, add-sub-cancel}
 use native.Mathlib.Omega.{arith}
 use native.Mathlib.Numerals.{add-one}
 use lib.ListN.{length, set, take, drop, replicate, length-append, length-replicate, replicate-append-replicate, drop-of-length-le, take-append-drop}
 use borrow.Author.Tests.{lt-ltb, le-ltb}
-use lib.Seq.{take-at, set-at}
+use lib.Seq.{take-at, drop-at, drop-drop, set-at}
 use borrow.Rule.Slice.PartMut.{putMid}
 use Rattle.words.specs.Words.{part, splice}
 use Rattle.words.proofs.Parts.{grown, back}
 use Rattle.settings.specs.declared.Settings.{Settings}
 use Rattle.settings.specs.Range.{InRange}
 use Rattle.layout.specs.Places.{tableWords, nodesAt, blocksAt, blockAt, linkAt, nodeSize, nodeAt, memorySize}
+use Rattle.layout.proofs.Fits.{block-fits}
 use Rattle.setup.specs.Fresh.{nextFree, freshBlock, freshBlocks, freshFront, freshNode, freshNodes, freshHead, freshMemory}
 
--- zeroes whose first word is stored anew
-pub first-set : (d : List ℕ) (v : ℕ) → 1 ≤ length d → set (replicate (length d) 0) 0 v ≡ v ∷ replicate (length d - 1) 0
-first-set d v h =
-    let e : length d ≡ suc (length d - 1) = omega arith in
-    ap (λ (k : ℕ). set (replicate k 0) 0 v) e
+-- the first zeroes of many, and those behind them
+take-zeroes : (n m : ℕ) → take n (replicate {A = ℕ} (n + m) 0) ≡ replicate n 0
+take-zeroes n m =
+    ap (take n) (sym (replicate-append-replicate n m 0)) ∙ take-at (replicate n 0) (replicate m 0) n (length-replicate n 0)
+
+drop-zeroes : (n m : ℕ) → drop n (replicate {A = ℕ} (n + m) 0) ≡ replicate m 0
+drop-zeroes n m =
+    ap (drop n) (sym (replicate-append-replicate n m 0)) ∙ drop-at (replicate n 0) (replicate m 0) n (length-replicate n 0)
 
 -- a stretch has words
-pub some-words : (s : Settings) (d : List ℕ) → length d ≡ nodeSize s → 1 ≤ length d
+pub some-words : (s : Settings) → 1 ≤ nodeSize s
 unfolding nodeSize blocksAt
-some-words s d e = omega arith
+some-words s = omega arith
 
 -- a node's stretch whose first k blocks are linked, and whose other words behind the front are 0
 unfoldable pub linked : Settings → ℕ → List ℕ
@@ -34,6 +38,10 @@ linked s k = (freshFront s ++ freshBlocks s k) ++ replicate ((s .m - k) * s .b) 
 -- a memory d whose words before the stretches are h, with its first i stretches laid
 unfoldable pub laidNodes : Settings → List ℕ → List ℕ → ℕ → List ℕ
 laidNodes s h d i = (h ++ freshNodes s i) ++ drop (nodeAt s i) d
+
+-- a memory that was cleared
+pub cleared : (s : Settings) (d m : List ℕ) → m ≡ replicate (length d) 0 → length d ≡ memorySize s → m ≡ replicate (memorySize s) 0
+cleared s d m e z = e ∙ ap (λ (n : ℕ). replicate {A = ℕ} n 0) z
 
 module _ (s : Settings) (r : InRange s) where
   pub length-block : (b : ℕ) → length (freshBlock s b) ≡ s .b
@@ -76,12 +84,13 @@ module _ (s : Settings) (r : InRange s) where
   length-laid : (k : ℕ) → length (freshFront s ++ freshBlocks s k) ≡ blocksAt s + k * s .b
   length-laid k = length-append (freshFront s) (freshBlocks s k) ∙ omega (arith, length-front, length-blocks k)
 
-  pub linked-none : (d : List ℕ) → length d ≡ nodeSize s → d ≡ 1 ∷ replicate (length d - 1) 0 → d ≡ linked s 0
+  -- a stretch of zeroes whose first word is stored anew
+  pub linked-none : (d : List ℕ) → d ≡ replicate (nodeSize s) 0 → set d 0 1 ≡ linked s 0
   unfolding linked freshFront freshBlocks nodeSize blocksAt
-  linked-none d z e =
-      let f : length d - 1 ≡ blocksAt s - 1 + s .m * s .b = omega arith in
+  linked-none d e =
+      let f : nodeSize s ≡ suc (blocksAt s - 1 + s .m * s .b) = omega arith in
       let g : s .m - 0 ≡ s .m = omega arith in
-      e ∙ ap (λ (x : ℕ). 1 ∷ replicate {A = ℕ} x 0) f
+      ap (λ (l : List ℕ). set l 0 1) (e ∙ ap (λ (x : ℕ). replicate {A = ℕ} x 0) f)
       ∙ ap (λ (l : List ℕ). 1 ∷ l) (sym (replicate-append-replicate (blocksAt s - 1) (s .m * s .b) 0))
       ∙ ap (λ (l : List ℕ). l ++ replicate (s .m * s .b) 0) (sym (append-nil (1 ∷ replicate (blocksAt s - 1) 0)))
       ∙ ap (λ (y : ℕ). (freshFront s ++ []) ++ replicate {A = ℕ} (y * s .b) 0) (sym g)
@@ -112,6 +121,16 @@ module _ (s : Settings) (r : InRange s) where
       let f : b + 1 - 1 ≡ b = omega arith in
       ap (λ (y : ℕ). set (linked s (b - 1)) at (y + 1)) (sym d) ∙ linked-more (b - 1) at (omega arith) (e ∙ ap (linkAt s) (sym d)) ∙ ap (linked s) (d ∙ sym f)
 
+  -- the word of a block's link: within the stretch, and B words before the next
+  pub link-in : (b at : ℕ) → 1 ≤ b → b ≤ s .m → at ≡ linkAt s b → at < nodeSize s
+  link-in b at l h e = let w = r .b .low in omega (arith, block-fits s b l h)
+
+  pub link-next : (b at : ℕ) → 1 ≤ b → at ≡ linkAt s b → at + s .b ≡ linkAt s (b + 1)
+  unfolding blockAt
+  link-next b at l e =
+      let d : b + 1 - 1 ≡ suc (b - 1) = omega arith in
+      omega (arith, ap (λ (y : ℕ). y * s .b) d ∙ suc-mul (b - 1) (s .b))
+
   pub linked-all : (k : ℕ) → k + 1 ≡ s .m → linked s k ≡ freshNode s
   unfolding linked freshNode freshBlocks freshBlock nextFree
   linked-all k e =
@@ -137,6 +156,29 @@ module _ (s : Settings) (r : InRange s) where
       cut : (n : ℕ) (l : List ℕ) → l ≡ (take n l ++ []) ++ drop n l
       cut n l = rw (append-nil, take-append-drop n l)
 
+  -- stretch i, where i are laid and what is behind them is zeroes
+  pub nodes-next : (h d m : List ℕ) (i a n : ℕ) → a ≡ nodeAt s i → n ≡ nodeSize s → i < 6 → length h ≡ nodesAt → drop nodesAt d ≡ replicate (6 * nodeSize s) 0
+      → m ≡ laidNodes s h d i → part m a (a + n) ≡ replicate (nodeSize s) 0
+  unfolding laidNodes nodeAt
+  nodes-next h d m i a n e f g l q j =
+      let w : ℕ = nodeSize s in
+      let p : List ℕ = h ++ freshNodes s i in
+      let z : length p ≡ a = length-append h (freshNodes s i) ∙ omega (arith, length-nodes i) in
+      let o : 6 * w ≡ i * w + (w + (5 - i) * w) = ap (λ (k : ℕ). k * w) six ∙ add-mul i (suc (5 - i)) w ∙ omega (arith, suc-mul (5 - i) w) in
+      let u : a + n - a ≡ w = omega arith in
+      let v : drop a d ≡ replicate (w + (5 - i) * w) 0 =
+      ap (λ (k : ℕ). drop k d) e
+      ∙ sym (drop-drop (i * w) 536 d)
+      ∙ ap (drop (i * w)) (q ∙ ap (λ (k : ℕ). replicate {A = ℕ} k 0) o)
+      ∙ drop-zeroes (i * w) (w + (5 - i) * w) in
+      ap (λ (t : List ℕ). part t a (a + n)) (j ∙ ap (λ (k : ℕ). p ++ drop k d) (sym e))
+      ∙ ap (take (a + n - a)) (drop-at p (drop a d) a z ∙ v)
+      ∙ ap (λ (k : ℕ). take k (replicate {A = ℕ} (w + (5 - i) * w) 0)) u
+      ∙ take-zeroes w ((5 - i) * w)
+    where
+      six : 6 ≡ i + suc (5 - i)
+      six = omega arith
+
   pub nodes-more : (h d : List ℕ) (i : ℕ) → length h ≡ nodesAt
       → splice (laidNodes s h d i) (nodeAt s i) (nodeAt s i + nodeSize s) (freshNode s) ≡ laidNodes s h d (i + 1)
   unfolding laidNodes freshNodes nodeAt
@@ -152,22 +194,42 @@ module _ (s : Settings) (r : InRange s) where
   unfolding laidNodes memorySize nodeAt
   nodes-all h d z = rw (drop-of-length-le d {i = 536 + 6 * nodeSize s} (omega arith), append-nil)
 
-  -- ---- what comes back from the calls that lay a front, a block, a stretch
+  -- ---- what comes back from the call that lays a stretch
 
   pub node-back : (h d m p : List ℕ) (i a n : ℕ) → a ≡ nodeAt s i → n ≡ nodeSize s → length h ≡ nodesAt → m ≡ laidNodes s h d i → p ≡ freshNode s
       → putMid a (a + n - a) m p ≡ laidNodes s h d (i + 1)
   node-back h d m p i a n e f l j q = back a (a + n) m (omega arith) q ∙ rw (e, f, j) (nodes-more h d i l)
 
-  -- the head and the table laid, then the stretches
-  pub memory-back : (m p q n t : List ℕ) → nodesAt ≤ length m → length t ≡ tableWords → p ≡ freshHead s → q ≡ t
-      → n ≡ take nodesAt (putMid 24 (536 - 24) (putMid 0 (24 - 0) m p) q) ++ freshNodes s 6 → n ≡ freshMemory s t
-  unfolding freshMemory
-  memory-back m p q n t h z e f g =
-      let a : putMid 0 (24 - 0) m p ≡ freshHead s ++ drop 24 m = back 0 24 m (omega arith) e in
-      let b : putMid 24 (536 - 24) (putMid 0 (24 - 0) m p) q ≡ (freshHead s ++ t) ++ drop 536 m =
-      back 24 536 (putMid 0 (24 - 0) m p) (omega arith) f
-      ∙ ap (λ (l : List ℕ). splice l 24 536 t) a ∙ grown m (freshHead s) t 24 536 length-head (omega arith) in
-      g
-      ∙ ap (λ (l : List ℕ). take 536 l ++ freshNodes s 6) b
-      ∙ ap (λ (l : List ℕ). l ++ freshNodes s 6)
-      (take-at (freshHead s ++ t) (drop 536 m) 536 (length-append (freshHead s) t ∙ omega (arith, length-head)))
+  -- ---- words m that are cleared, in which the head p and then the table q are lent and come back laid
+  module _ (m : List ℕ) (o : m ≡ replicate (memorySize s) 0) where
+    pub head-next : part m 0 24 ≡ replicate 24 0
+    unfolding memorySize
+    head-next =
+        let k : memorySize s ≡ 24 + (512 + 6 * nodeSize s) = omega arith in
+        ap (take 24) (o ∙ ap (λ (x : ℕ). replicate {A = ℕ} x 0) k) ∙ take-zeroes 24 (512 + 6 * nodeSize s)
+
+    module _ (p q t : List ℕ) (z : length t ≡ tableWords) (e : p ≡ freshHead s) (f : q ≡ t) where
+      laid : putMid 24 (536 - 24) (putMid 0 (24 - 0) m p) q ≡ (freshHead s ++ t) ++ drop 536 m
+      laid =
+          back 24 536 (putMid 0 (24 - 0) m p) (omega arith) f
+          ∙ ap (λ (l : List ℕ). splice l 24 536 t) (back 0 24 m (omega arith) e)
+          ∙ grown m (freshHead s) t 24 536 length-head (omega arith)
+
+      length-top : length (freshHead s ++ t) ≡ 536
+      length-top = length-append (freshHead s) t ∙ omega (arith, length-head)
+
+      -- behind them the zeroes still stand
+      pub nodes-start : drop nodesAt (putMid 24 (536 - 24) (putMid 0 (24 - 0) m p) q) ≡ replicate (6 * nodeSize s) 0
+      unfolding memorySize
+      nodes-start =
+          ap (drop 536) laid
+          ∙ drop-at (freshHead s ++ t) (drop 536 m) 536 length-top
+          ∙ ap (drop 536) o
+          ∙ drop-zeroes 536 (6 * nodeSize s)
+
+      pub memory-back : (n : List ℕ) → n ≡ take nodesAt (putMid 24 (536 - 24) (putMid 0 (24 - 0) m p) q) ++ freshNodes s 6 → n ≡ freshMemory s t
+      unfolding freshMemory
+      memory-back n g =
+          g
+          ∙ ap (λ (l : List ℕ). take 536 l ++ freshNodes s 6) laid
+          ∙ ap (λ (l : List ℕ). l ++ freshNodes s 6) (take-at (freshHead s ++ t) (drop 536 m) 536 length-top)

@@ -3,13 +3,13 @@ use answers::Answer;
 use settings::MadeSettings;
 use settings::Settings;
 ghost use mathlib.Core.Path.{_≡_};
-ghost use mathlib.Core.List.{_∷_, _++_};
-ghost use Prim.Native.Nat.{_-_, _≤_};
-ghost use lib.ListN.{length, take, replicate};
+ghost use mathlib.Core.List.{_++_};
+ghost use Prim.Native.Nat.{_*_};
+ghost use lib.ListN.{length, take, drop, replicate};
 ghost use Rattle.settings.specs.Made.{settingsOf};
 ghost use Rattle.settings.specs.Range.{InRange};
-ghost use Rattle.layout.specs.Places.{tableWords, tableAt, nodesAt};
-ghost use Rattle.layout.specs.Asked.{Stretch, Sized};
+ghost use Rattle.layout.specs.Places.{tableWords, tableAt, nodesAt, nodeSize};
+ghost use Rattle.layout.specs.Asked.{Sized};
 ghost use Rattle.setup.specs.Fresh.{freshHead, freshNode, freshNodes, freshMemory};
 ghost use Rattle.setup.specs.Outcome.{setUp, told};
 
@@ -20,13 +20,12 @@ pub enum SetUp {
     OtherSize,
 }
 
-// The words before the task table.
+// The settings, in a head of zeroes.
 fn lay_head(head: &mut [u32], s: Settings)
     requires { ⌜ InRange s ⌝ }
-    requires { ⌜ length (now head) ≡ tableAt ⌝ }
+    requires { ⌜ now head ≡ replicate tableAt 0 ⌝ }
     ensures { λ _. ⌜ now (head .exit) ≡ freshHead s ⌝ }
 {
-    words::clear(head);
     head[0] = s.b as u32;
     head[1] = s.m as u32;
     head[2] = s.s as u32;
@@ -34,41 +33,26 @@ fn lay_head(head: &mut [u32], s: Settings)
     head[4] = s.t as u32;
 }
 
-// A stretch of zeroes, but for the first free block, 1.
-fn lay_front(node: &mut [u32])
-    requires { ⌜ 1 ≤ length (now node) ⌝ }
-    ensures { λ _. ⌜ now (node .exit) ≡ 1 ∷ replicate (length (now (node .entry)) - 1) 0 ⌝ }
-{
-    words::clear(node);
-    node[0] = 1;
-}
-
-// The links of the free list, in such a stretch; that of the last block stays 0.
-fn lay_links(node: &mut [u32], s: Settings)
-    requires { ⌜ Stretch s (now node) ⌝ }
-    requires { ⌜ now node ≡ 1 ∷ replicate (length (now node) - 1) 0 ⌝ }
+// The free list, in a stretch of zeroes: the first free block, 1, then a link every B words; that of the last block stays 0.
+fn lay_node(node: &mut [u32], s: Settings)
+    requires { ⌜ InRange s ⌝ }
+    requires { ⌜ now node ≡ replicate (nodeSize s) 0 ⌝ }
     ensures { λ _. ⌜ now (node .exit) ≡ freshNode s ⌝ }
 {
+    node[0] = 1;
+    let mut at = layout::link_at(s, 1);
     let mut b = 1;
     while b < s.m {
-        let at = layout::link_at(s, b);
         b += 1;
         node[at] = b as u32;
+        at += s.b;
     }
 }
 
-// A node's stretch with no letter in it: filled with zeroes at one go, then linked.
-fn lay_node(node: &mut [u32], s: Settings)
-    requires { ⌜ Stretch s (now node) ⌝ }
-    ensures { λ _. ⌜ now (node .exit) ≡ freshNode s ⌝ }
-{
-    lay_front(node);
-    lay_links(node, s);
-}
-
-// The six nodes' stretches.
+// The six nodes' stretches, in a memory that is zeroes from the first of them on.
 fn lay_nodes(memory: &mut [u32], s: Settings)
     requires { ⌜ Sized s (now memory) ⌝ }
+    requires { ⌜ drop nodesAt (now memory) ≡ replicate (6 * nodeSize s) 0 ⌝ }
     ensures { λ _. ⌜ now (memory .exit) ≡ take nodesAt (now (memory .entry)) ++ freshNodes s 6 ⌝ }
 {
     let words = layout::node_size(s);
@@ -81,12 +65,13 @@ fn lay_nodes(memory: &mut [u32], s: Settings)
     }
 }
 
-// Every word of a memory fresh from set up.
+// Every word of a memory fresh from set up: all are cleared at one go, which is faster than node by node.
 fn lay_memory(memory: &mut [u32], s: Settings, table: &[u32])
     requires { ⌜ Sized s (now memory) ⌝ }
     requires { ⌜ length (now table) ≡ tableWords ⌝ }
     ensures { λ _. ⌜ now (memory .exit) ≡ freshMemory s (now (table .entry)) ⌝ }
 {
+    words::clear(memory);
     lay_head(&mut memory[0..24], s);
     words::copy(&mut memory[24..536], table);
     lay_nodes(memory, s);
