@@ -25,8 +25,8 @@ module _ (t : List ℕ) (i n : ℕ) where
       let e : 7 + n - 7 ≡ n = omega arith in
       record { is = λ ws. ap (λ (x : ℕ). fromTo i x ws) (sym e) ∙ sym (by-ack (7 + n) true (fromTo i (7 + n - 1) ws) (fromTo i (7 + n - 7) ws) (eqb (getD ws 2 0) (taskOf t i (7 + n - 13))) true (omega arith) (omega arith)) }
 
-  pub aim-task : n < 64 → (task : ℕ) → task ≡ taskOf t i n → Aimed t i (13 + n) false 0 task
+  pub aim-task : n < 64 → (k task : ℕ) → task ≡ taskOf t i n → Aimed t i (13 + n) false k task
   unfolding isAimed rightPlace
-  aim-task h task q =
+  aim-task h k task q =
       let e : 13 + n - 13 ≡ n = omega arith in
       record { is = λ ws. ap (eqb (getD ws 2 0)) (q ∙ ap (taskOf t i) (sym e)) ∙ sym (by-task (13 + n) true (fromTo i (13 + n - 1) ws) (fromTo i (13 + n - 7) ws) (eqb (getD ws 2 0) (taskOf t i (13 + n - 13))) true (omega arith) (omega arith)) }

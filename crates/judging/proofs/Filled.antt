@@ -1,12 +1,12 @@
--- What the number that is told of a queue with items decides. Assumes nothing.
+-- What the tests of a queue with items decide. Assumes nothing.
 use mathlib.Core.Path.{_≡_, refl, sym, ap, _∙_}
-use mathlib.Core.Bool.{Bool, true, false, _&&_, false≢true}
+use mathlib.Core.Bool.{Bool, true, false, _&&_, not, false≢true}
 use mathlib.Core.List.{List, [], _∷_}
-use Prim.Native.Nat.{ℕ, _+_, _-_, _≤_}
+use Prim.Native.Nat.{ℕ, suc, _+_, _-_, _≤_, _<_}
 use native.Mathlib.Omega.{arith}
 use lib.Dec.{eqb, leb, leb·zero}
 use lib.ListN.{getD}
-use borrow.Author.Tests.{eq-eqb, ne-eqb, le-leb}
+use borrow.Author.Tests.{ne-eqb, le-leb, lt-leb}
 use Rattle.words.specs.Words.{all}
 use Rattle.words.proofs.Lists.{split, same?, and-true, and-false, and-join, all-head}
 use Rattle.settings.specs.declared.Settings.{Settings}
@@ -14,20 +14,17 @@ use Rattle.layout.specs.Places.{gapWord}
 use Rattle.blocks.specs.Chain.{link, list, Within}
 use Rattle.blocks.proofs.Steps.{list-step}
 use Rattle.queues.specs.declared.Kind.{Kind}
-use Rattle.queues.specs.Queue.{itemAt, items, contents, Placed, Queue}
+use Rattle.queues.specs.Queue.{itemAt, items, run, contents, Placed, Queue}
 use Rattle.queues.specs.Items.{live, gapFlag}
-use Rattle.queues.proofs.Items.{gap-small}
 use Rattle.sound.specs.Queues.{inShape}
 use Rattle.sound.specs.Letters.{endsWell, wordsFrom, rightLength, rightHeader, rightPlace, rightLetter}
-use Rattle.sound.specs.Blocks.{chains}
 use Rattle.sound.proofs.Shapes.{shape-queue}
-use Rattle.sound.proofs.Tests.{and-yes, no-first}
+use Rattle.sound.proofs.Tests.{no-first}
 use Rattle.shapes.specs.Shape.{itemsWithin, rightPost, rightSeat}
 use Rattle.shapes.proofs.Steps.{seat-unbound, seat-gap, seat-flag}
-use Rattle.visits.specs.Marks.{marked}
 use Rattle.visits.specs.Letters.{lettersRight, Judged}
 use Rattle.visits.proofs.Read.{ends-within}
-use Rattle.judging.specs.Told.{Told}
+use Rattle.judging.specs.Filled.{filledRight}
 
 -- ---- right letters begin with blocks
 module _ (s : Settings) (l t : List ℕ) (i p : ℕ) (low : 1 ≤ s .m) where
@@ -66,111 +63,82 @@ module _ (m : ℕ) where
       (λ z q. rw z)
       (λ z q. rw (within-gap xs (λ y. e (rw q y))) (and-false (leb 1 x && leb x m)))
 
-module _ (k : Kind) (l : List ℕ) (q : ℕ) (letters : Bool) (due : List ℕ) where
-  pub filled-no : inShape k l q ≡ false → (new : List ℕ) → Told (inShape k l q && letters) (gapFlag (contents k l q)) due 2 new
-  filled-no e new = record { is = rw e; marks = λ z. absurd (false≢true (no-first (inShape k l q) letters e ∙ z)) }
+-- ---- one item that is above M
+pub above-no : (s : Settings) (l t : List ℕ) (i p : ℕ) → 1 ≤ s .m → (marks : List ℕ) (b : ℕ) → (b ≡ 0 → ⊥) → s .m < b → (due : List ℕ) → Judged (lettersRight s l t i p marks (live (b ∷ []))) due false marks
+unfolding lettersRight all
+above-no s l t i p low marks b some h due =
+    let n : all (rightLetter s l t i p) (live (b ∷ [])) ≡ false = split (all (rightLetter s l t i p) (live (b ∷ []))) (λ e. absurd (high (letters-high s l t i p low (b ∷ []) e))) (λ e. e) in
+    record { is = no-first (all (rightLetter s l t i p) (live (b ∷ []))) _ n; marks = λ w. absurd (false≢true w) }
+  where
+    high : all (λ x. leb x (s .m)) (b ∷ []) ≡ true → ⊥
+    high e = false≢true (sym (lt-leb b (s .m) h) ∙ and-true (leb b (s .m)) true e .0)
 
-  module _ (e : inShape k l q ≡ true) where
-    pub filled-queue : Placed k l q → Queue k l q
-    filled-queue p = shape-queue k l q p e
+-- ---- what one test after the other decides
+module _ (k : Kind) (l : List ℕ) (q flag : ℕ) (letters : Bool) (due : List ℕ) where
+  filled-not : filledRight k l q flag ≡ false → (new : List ℕ) → Judged (filledRight k l q flag && letters) due false new
+  filled-not e new = record { is = no-first (filledRight k l q flag) letters e; marks = λ w. absurd (false≢true w) }
 
-    pub filled-yes : (r : ℕ) (new : List ℕ) → Told letters (gapFlag (contents k l q)) due r new → Told (inShape k l q && letters) (gapFlag (contents k l q)) due r new
-    filled-yes r new v = rw e v
+  pub filled-no : inShape k l q ≡ false → (new : List ℕ) → Judged (filledRight k l q flag && letters) due false new
+  unfolding filledRight
+  filled-no e new = filled-not (rw e) new
 
--- ---- by the number that was told
-module _ (s : Settings) (l t : List ℕ) (i p : ℕ) (low : 1 ≤ s .m) (k : Kind) (queue : List ℕ) (q : ℕ) (marks : List ℕ) (r : ℕ) (new : List ℕ)
-    (v : Told (inShape k queue q && lettersRight s l t i p marks (live (contents k queue q))) (gapFlag (contents k queue q)) (marked marks (chains s l (live (contents k queue q)))) r new) where
-  abbrev xs : List ℕ
-  xs = contents k queue q
+  pub filled-gap : inShape k l q ≡ true → itemAt k l q 0 ≡ 0 → (new : List ℕ) → Judged (filledRight k l q flag && letters) due false new
+  unfolding filledRight
+  filled-gap e z new = filled-not (rw (e, z)) new
 
-  abbrev shaped : Bool
-  shaped = inShape k queue q
+  pub filled-queue : inShape k l q ≡ true → Placed k l q → Queue k l q
+  filled-queue e p = shape-queue k l q p e
 
-  abbrev letters : Bool
-  letters = lettersRight s l t i p marks (live (contents k queue q))
+  pub filled-yes : inShape k l q ≡ true → (itemAt k l q 0 ≡ 0 → ⊥) → (r : Bool) (new : List ℕ) → Judged (eqb flag (gapFlag (contents k l q)) && letters) due r new → Judged (filledRight k l q flag && letters) due r new
+  unfolding filledRight
+  filled-yes e z r new v = rw (e, ne-eqb (itemAt k l q 0) 0 z) v
 
-  high : letters ≡ true → all (λ b. leb b (s .m)) (contents k queue q) ≡ true
+-- ---- by the kind of queue: where its letters are right
+module _ (s : Settings) (l t : List ℕ) (i p : ℕ) (low : 1 ≤ s .m) (k : Kind) (queue : List ℕ) (q : ℕ) (marks : List ℕ) (some : 1 ≤ items k queue q) where
+  high : lettersRight s l t i p marks (live (contents k queue q)) ≡ true → all (λ b. leb b (s .m)) (contents k queue q) ≡ true
   unfolding lettersRight
   high e = letters-high s l t i p low (contents k queue q) (and-true (all (rightLetter s l t i p) (live (contents k queue q))) _ e .0)
 
-  -- where the test fails
-  told-no : shaped && letters ≡ false → r ≡ 2
-  told-no e = v .is ∙ rw e
+  -- a first item that is a gap asks for the flag
+  first-gap : itemAt k queue q 0 ≡ 0 → gapFlag (contents k queue q) ≡ 1
+  unfolding run gapFlag
+  first-gap z = let d : items k queue q ≡ suc (items k queue q - 1) = omega arith in ap (λ (n : ℕ). gapFlag (run k queue q 0 n)) d ∙ rw z
 
-  told-yes : shaped && letters ≡ true → r ≡ gapFlag (contents k queue q)
-  told-yes e = v .is ∙ rw e
-
-  -- ---- a send or acknowledge queue
   post-is : rightPost k queue q (s .m) false ≡ inShape k queue q && itemsWithin 1 (s .m) (contents k queue q)
   unfolding rightPost
   post-is = refl
 
-  pub post-told : Judged (rightPost k queue q (s .m) false && lettersRight s l t i p marks (live (contents k queue q))) (marked marks (chains s l (live (contents k queue q)))) (eqb r 0) new
-  post-told =
+  pub post-filled : lettersRight s l t i p marks (live (contents k queue q)) ≡ true → filledRight k queue q 0 ≡ rightPost k queue q (s .m) false
+  unfolding filledRight
+  post-filled e =
       split (inShape k queue q)
-      (λ a. split (lettersRight s l t i p marks (live (contents k queue q)))
-      (λ b.
-      let y : shaped && letters ≡ true = rw (a, b) in
-      let f = told-yes y in
-      same? (gapFlag (contents k queue q)) 0
+      (λ a. same? (gapFlag (contents k queue q)) 0
       (λ z _.
-      let g : rightPost k queue q (s .m) false ≡ true = post-is ∙ rw (a, within-full (s .m) (contents k queue q) z (high b)) in
-      record { is = rw (eq-eqb r 0 (f ∙ z), g, b); marks = λ _. v .marks y })
+      let n : itemAt k queue q 0 ≡ 0 → ⊥ = λ (w : itemAt k queue q 0 ≡ 0). let g = first-gap w in omega arith in
+      rw (a, ne-eqb (itemAt k queue q 0) 0 n, z) (sym (post-is ∙ rw (a, within-full (s .m) (contents k queue q) z (high e)))))
       (λ z _.
-      let g : rightPost k queue q (s .m) false ≡ false = post-is ∙ rw (a, within-gap (s .m) (contents k queue q) z) in
-      record { is = rw (ne-eqb r 0 (λ w. z (sym f ∙ w)), g); marks = λ w. absurd (false≢true (sym (ne-eqb r 0 (λ u. z (sym f ∙ u))) ∙ w)) }))
-      (λ b.
-      let f = told-no (rw (a, b)) in
-      let n : eqb r 0 ≡ false = ne-eqb r 0 (λ w. omega arith) in
-      record { is = rw (n, b) (sym (and-false (rightPost k queue q (s .m) false))); marks = λ w. absurd (false≢true (sym n ∙ w)) }))
-      (λ a.
-      let f = told-no (rw a) in
-      let n : eqb r 0 ≡ false = ne-eqb r 0 (λ w. omega arith) in
-      let g : rightPost k queue q (s .m) false ≡ false = post-is ∙ rw a in
-      record { is = rw (n, g); marks = λ w. absurd (false≢true (sym n ∙ w)) })
+      rw (a, ne-eqb 0 (gapFlag (contents k queue q)) (λ w. z (sym w))) (and-false (not (eqb (itemAt k queue q 0) 0)) ∙ sym (post-is ∙ rw (a, within-gap (s .m) (contents k queue q) z)))))
+      (λ a. rw a (sym (post-is ∙ rw a)))
 
-  -- ---- a task queue
-  module _ (task : ℕ) where
-    abbrev right : Bool
-    right = rightSeat k queue q (s .m) task && lettersRight s l t i p marks (live (contents k queue q))
+  seat-out : (task : ℕ) → inShape k queue q ≡ false → rightSeat k queue q (s .m) task ≡ false
+  unfolding rightSeat
+  seat-out task e = rw e
 
-    no : right ≡ false → Judged (rightSeat k queue q (s .m) task && lettersRight s l t i p marks (live (contents k queue q))) (marked marks (chains s l (live (contents k queue q)))) false new
-    no e = record { is = sym e; marks = λ w. absurd (false≢true w) }
+  pub seat-filled : (task : ℕ) → (task ≡ 0 → ⊥) → lettersRight s l t i p marks (live (contents k queue q)) ≡ true → filledRight k queue q (getD queue (q + gapWord) 0) ≡ rightSeat k queue q (s .m) task
+  unfolding filledRight
+  seat-filled task n e =
+      split (inShape k queue q)
+      (λ a. same? (itemAt k queue q 0) 0
+      (λ z _. rw (a, z) (seat-gap k queue q (s .m) task some a (high e) z))
+      (λ z _. rw (a, ne-eqb (itemAt k queue q 0) 0 z) (seat-flag k queue q (s .m) task some a (high e) n z _ refl)))
+      (λ a. rw a (sym (seat-out task a)))
 
-    seat-out : inShape k queue q ≡ false → rightSeat k queue q (s .m) task ≡ false
-    unfolding rightSeat
-    seat-out e = rw e
-
-    pub seat-bad : r ≡ 2 → Judged (rightSeat k queue q (s .m) task && lettersRight s l t i p marks (live (contents k queue q))) (marked marks (chains s l (live (contents k queue q)))) false new
-    seat-bad e =
-        split (inShape k queue q)
-        (λ a. split (lettersRight s l t i p marks (live (contents k queue q)))
-        (λ b. let f = told-yes (rw (a, b)) in let g = gap-small (contents k queue q) in absurd (omega arith))
-        (λ b. no (rw b (and-false (rightSeat k queue q (s .m) task)))))
-        (λ a. no (rw (seat-out a)))
-
-    module _ (n : r ≡ 2 → ⊥) where
-      both : shaped && letters ≡ true
-      both = split (shaped && letters) (λ e. e) (λ e. absurd (n (told-no e)))
-
-      in-shape : inShape k queue q ≡ true
-      in-shape = and-true (inShape k queue q) letters both .0
-
-      are-right : letters ≡ true
-      are-right = and-true (inShape k queue q) letters both .1
-
-      pub seat-queue : Placed k queue q → Queue k queue q
-      seat-queue y = shape-queue k queue q y in-shape
-
-      module _ (some : 1 ≤ items k queue q) where
-        pub seat-first : itemAt k queue q 0 ≡ 0 → Judged (rightSeat k queue q (s .m) task && lettersRight s l t i p marks (live (contents k queue q))) (marked marks (chains s l (live (contents k queue q)))) false new
-        seat-first z = no (rw (sym (seat-gap k queue q (s .m) task some in-shape (high are-right) z)))
-
-        pub seat-told : (task ≡ 0 → ⊥) → (itemAt k queue q 0 ≡ 0 → ⊥)
-            → Judged (rightSeat k queue q (s .m) task && lettersRight s l t i p marks (live (contents k queue q))) (marked marks (chains s l (live (contents k queue q)))) (eqb (getD queue (q + gapWord) 0) r) new
-        seat-told h z =
-            let g = seat-flag k queue q (s .m) task some in-shape (high are-right) h z (eqb (getD queue (q + gapWord) 0) r) (ap (eqb (getD queue (q + gapWord) 0)) (told-yes both)) in
-            record { is = g ∙ sym (and-yes (rightSeat k queue q (s .m) task)) ∙ ap (λ (b : Bool). rightSeat k queue q (s .m) task && b) (sym are-right); marks = λ _. v .marks both }
+-- a test in the place of another that decides the same where the letters are right
+pub same-rule : (a b letters : Bool) → (letters ≡ true → a ≡ b) → (due : List ℕ) (r : Bool) (new : List ℕ) → Judged (a && letters) due r new → Judged (b && letters) due r new
+same-rule a b letters f due r new v =
+    split letters
+    (λ e. rw (f e) at v)
+    (λ e. let z : r ≡ false = v .is ∙ rw e (and-false a) in record { is = z ∙ rw e (sym (and-false b)); marks = λ w. absurd (false≢true (sym z ∙ w)) })
 
 -- a task queue with items, of no task
 pub seat-none : (k : Kind) (l : List ℕ) (q m task : ℕ) (letters : Bool) (due new : List ℕ) → 1 ≤ items k l q → task ≡ 0 → Judged (rightSeat k l q m task && letters) due false new

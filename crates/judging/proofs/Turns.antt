@@ -17,10 +17,10 @@ use Rattle.queues.specs.Queue.{slotFrom}
 use Rattle.queues.specs.Items.{live, gapFlag}
 use Rattle.queues.proofs.Items.{live-append}
 use Rattle.sound.specs.Blocks.{chains}
+use Rattle.sound.proofs.Tests.{and-yes, no-second}
 use Rattle.visits.specs.Marks.{marked}
 use Rattle.visits.specs.Letters.{lettersRight, Judged}
 use Rattle.visits.proofs.Judge.{right-none, marks-none, right-append, marks-append, gap-judged}
-use Rattle.judging.specs.Told.{Told}
 
 module _ (s : Settings) (l t : List ℕ) (i p : ℕ) (xs : List ℕ) (old : List ℕ) where
   -- with the marks and the gap so far, the items from the j-th on decide
@@ -35,15 +35,15 @@ module _ (s : Settings) (l t : List ℕ) (i p : ℕ) (xs : List ℕ) (old : List
 
   module _ (marks : List ℕ) (j gap : ℕ) (w : Turn marks j gap) where
     -- none left
-    pub turn-end : length xs ≤ j → Told (lettersRight s l t i p old (live xs)) (gapFlag xs) (marked old (chains s l (live xs))) gap marks
+    pub turn-end : length xs ≤ j → (asked : ℕ) → Judged (eqb asked (gapFlag xs) && lettersRight s l t i p old (live xs)) (marked old (chains s l (live xs))) (eqb asked gap) marks
     unfolding live gapFlag
-    turn-end h =
+    turn-end h asked =
         let e = drop-of-length-le xs h in
         let y : lettersRight s l t i p old (live xs) ≡ true = w .right ∙ ap (λ (c : List ℕ). lettersRight s l t i p marks (live c)) e ∙ right-none s l t i p marks in
         let f : gapFlag xs ≡ cond (eqb gap 0) 0 1 = w .flag ∙ ap (λ (c : List ℕ). cond (eqb gap 0) (gapFlag c) 1) e in
         let g : cond (eqb gap 0) 0 1 ≡ gap = same? gap 0 (λ z q. rw q (sym z)) (λ z q. rw q (omega (arith, w .small))) in
         record {
-          is = rw y (sym (f ∙ g));
+          is = rw (y, f ∙ g) (sym (and-yes (eqb asked gap)));
           marks = λ z. sym (w .due ∙ ap (λ (c : List ℕ). marked marks (chains s l (live c))) e ∙ marks-none s l t i p marks);
         }
 
@@ -60,10 +60,10 @@ module _ (s : Settings) (l t : List ℕ) (i p : ℕ) (xs : List ℕ) (old : List
         both = w .right ∙ ap (lettersRight s l t i p marks) cut ∙ right-append s l t i p marks (live (x ∷ [])) (live (drop (j + 1) xs))
 
         -- a letter that is not right
-        pub turn-bad : r ≡ false → Told (lettersRight s l t i p old (live xs)) (gapFlag xs) (marked old (chains s l (live xs))) 2 new
-        turn-bad f =
+        pub turn-bad : r ≡ false → (asked : ℕ) → Judged (eqb asked (gapFlag xs) && lettersRight s l t i p old (live xs)) (marked old (chains s l (live xs))) false new
+        turn-bad f asked =
             let n : lettersRight s l t i p old (live xs) ≡ false = both ∙ rw (sym (v .is) ∙ f) in
-            record { is = rw n; marks = λ z. absurd (false≢true (sym n ∙ z)) }
+            record { is = no-second (eqb asked (gapFlag xs)) _ n; marks = λ z. absurd (false≢true z) }
 
         -- a letter that is
         pub turn-letter : (x ≡ 0 → ⊥) → r ≡ true → Turn new (j + 1) gap
@@ -90,6 +90,17 @@ module _ (s : Settings) (l t : List ℕ) (i p : ℕ) (xs : List ℕ) (old : List
             flag = w .flag ∙ ap (λ (c : List ℕ). cond (eqb gap 0) (gapFlag c) 1) rest ∙ rw (eq-eqb x 0 z) (same? gap 0 (λ y q. rw q) (λ y q. rw q));
             small = omega arith;
           }
+
+-- ---- the number below an item's, which goes round at 0: at least M where the item begins no letter
+module _ (m b less : ℕ) (small : m ≤ 1024) (fits : less < 4294967296) (wraps : (less + 1) % 4294967296 ≡ b) where
+  pub less-low : less < m → (1 ≤ b) × (b ≤ m)
+  less-low h = let e : less + 1 ≡ b = sym (mod-eq-of-lt {n = less + 1} {m = 4294967296} (omega arith)) ∙ wraps in (omega arith, omega arith)
+
+  pub less-high : m ≤ less → (b ≡ 0 → ⊥) → m < b
+  less-high h n =
+      same? (less + 1) 4294967296
+      (λ e _. absurd (n (sym wraps ∙ ap (λ (x : ℕ). x % 4294967296) e ∙ mod-self 4294967296)))
+      (λ e _. let f : less + 1 ≡ b = sym (mod-eq-of-lt {n = less + 1} {m = 4294967296} (omega arith)) ∙ wraps in omega arith)
 
 -- ---- the slots, gone over one after the other and round
 module _ (k : Kind) (q first j : ℕ) (some : 2 ≤ k .slots) where

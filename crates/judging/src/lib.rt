@@ -3,7 +3,7 @@ use queues::Kind;
 use settings::Settings;
 use visits::Went;
 ghost use mathlib.Core.Path.{_≡_};
-ghost use mathlib.Core.Bool.{true, false, _&&_};
+ghost use mathlib.Core.Bool.{true, _&&_};
 ghost use mathlib.Core.List.{[], _∷_};
 ghost use Prim.Native.Nat.{_-_, _≤_, _<_};
 ghost use lib.Dec.{eqb};
@@ -11,15 +11,13 @@ ghost use lib.ListN.{length};
 ghost use Rattle.settings.specs.Range.{InRange};
 ghost use Rattle.layout.specs.Places.{nodes, blockAt};
 ghost use Rattle.tasks.specs.Table.{rightTable};
-ghost use Rattle.queues.specs.Queue.{Placed, Queue, items, contents};
+ghost use Rattle.queues.specs.Queue.{Placed, Queue, contents};
 ghost use Rattle.queues.specs.Items.{live, gapFlag};
-ghost use Rattle.sound.specs.Queues.{inShape};
 ghost use Rattle.sound.specs.Blocks.{chains};
-ghost use Rattle.shapes.specs.Shape.{rightPost, rightSeat};
 ghost use Rattle.visits.specs.Marks.{marked, Linked, Walked};
 ghost use Rattle.visits.specs.Letters.{isOn, fitsLength, lettersRight, Judged, Placing};
 ghost use Rattle.judging.specs.Aim.{isAimed, Aimed, Headed};
-ghost use Rattle.judging.specs.Told.{Told};
+ghost use Rattle.judging.specs.Filled.{filledRight};
 
 // What is wrong with four words as a header, joined: 0 where they are one of bound tasks on their nodes, as the place wants it.
 // Nodes that are joined to 7 at most are two of the six, or the table has none such.
@@ -72,7 +70,8 @@ fn misfit(s: Settings, count: usize, n: u32) -> u32
     odd
 }
 
-// The walk from block b on as `visits::follow` makes it, its first two blocks with no call: most letters have no more.
+// The walk from block b on as `visits::follow` makes it, its first two blocks with no call: most letters have no more. The stretch is lent
+// to the call as a part of itself, so that only a letter that goes so far makes it ready.
 fn go_far(
     node: &[u32],
     before: usize,
@@ -84,12 +83,9 @@ fn go_far(
 ) -> usize
     requires { ⌜ Linked (now node) before width m ⌝ }
     requires { ⌜ m < length (now marks) ⌝ }
-    requires { ⌜ (1 ≤ b) × (1 ≤ owed) ⌝ }
+    requires { ⌜ (1 ≤ b) × (b ≤ m) ⌝ }
     ensures { λ r. ⌜ Walked (now (node .entry)) before width m owed b (now (marks .entry)) r (now (marks .exit)) ⌝ }
 {
-    if m < b as usize {
-        return 0;
-    }
     let first = visits::go_on(node, before, width, m, marks, b, owed);
     let b1 = match first {
         Went::Over(r) => return r,
@@ -100,7 +96,7 @@ fn go_far(
         Went::Over(r) => return r,
         Went::On(next) => next,
     };
-    visits::follow(node, before, width, m, marks, b2, owed - 2)
+    visits::follow(&node[0..node.len()], before, width, m, marks, b2, owed - 2)
 }
 
 // Whether the letter that block b begins at place p of node i is right and none of its blocks has a mark; marks them. Its blocks have six
@@ -121,7 +117,7 @@ fn is_right_near(
     requires { ⌜ Headed s (now node) (now table) i p post k owner ⌝ }
     requires { ⌜ before ≡ blockAt s 1 - 1 ⌝ }
     requires { ⌜ s .m < length (now marks) ⌝ }
-    requires { ⌜ 1 ≤ b ⌝ }
+    requires { ⌜ (1 ≤ b) × (b ≤ s .m) ⌝ }
     ensures { λ r. ⌜ Judged (lettersRight s (now (node .entry)) (now (table .entry)) i p (now (marks .entry)) (live (b ∷ []))) (marked (now (marks .entry)) (chains s (now (node .entry)) (live (b ∷ [])))) r (now (marks .exit)) ⌝ }
 {
     let told = go_far(node, before, s.b, s.m, marks, b, s.m);
@@ -145,8 +141,8 @@ fn is_right_near(
     wrong == 0
 }
 
-// The letters of a queue's items, first to last: 2 where one is not right or one of its blocks has a mark, else the gap flag that the items
-// ask for. `post`: a send or acknowledge queue, from node i to node k; else a task queue, of the task `owner`.
+// The letters of a queue's items, first to last, and whether the gap flag that the items ask for is `flag`. `post`: a send or acknowledge
+// queue, from node i to node k; else a task queue, of the task `owner`. Below 0 is above M: one test tells a letter.
 fn are_right_items(
     queue: &[u32],
     kind: Kind,
@@ -161,13 +157,14 @@ fn are_right_items(
     post: bool,
     k: u32,
     owner: u32,
-) -> u32
+    flag: u32,
+) -> bool
     requires { ⌜ Queue kind (now queue) q ⌝ }
     requires { ⌜ Headed s (now node) (now table) i p post k owner ⌝ }
     requires { ⌜ i < nodes ⌝ }
     requires { ⌜ before ≡ blockAt s 1 - 1 ⌝ }
     requires { ⌜ s .m < length (now marks) ⌝ }
-    ensures { λ r. ⌜ Told (lettersRight s (now (node .entry)) (now (table .entry)) i p (now (marks .entry)) (live (contents kind (now (queue .entry)) q))) (gapFlag (contents kind (now (queue .entry)) q)) (marked (now (marks .entry)) (chains s (now (node .entry)) (live (contents kind (now (queue .entry)) q)))) r (now (marks .exit)) ⌝ }
+    ensures { λ r. ⌜ Judged (eqb flag (gapFlag (contents kind (now (queue .entry)) q)) && lettersRight s (now (node .entry)) (now (table .entry)) i p (now (marks .entry)) (live (contents kind (now (queue .entry)) q))) (marked (now (marks .entry)) (chains s (now (node .entry)) (live (contents kind (now (queue .entry)) q)))) r (now (marks .exit)) ⌝ }
 {
     let count = queue[q + 1] as usize;
     let mut at = q + (kind.head + queue[q] as usize);
@@ -175,7 +172,10 @@ fn are_right_items(
     let mut j: usize = 0;
     while j < count {
         let b = queue[at];
-        if b == 0 {
+        if s.m <= std::num::wrapping_sub_u32(b, 1) as usize {
+            if b != 0 {
+                return false;
+            }
             gap = 1;
         } else {
             if !is_right_near(
@@ -191,16 +191,17 @@ fn are_right_items(
                 owner,
                 b,
             ) {
-                return 2;
+                return false;
             }
         }
-        at += 1;
-        if at == q + (kind.head + kind.slots) {
+        if at == q + (kind.head + (kind.slots - 1)) {
             at = q + kind.head;
+        } else {
+            at += 1;
         }
         j += 1;
     }
-    gap
+    flag == gap
 }
 
 // The same where a block has four or five words, and the header goes on in the next.
@@ -215,11 +216,12 @@ fn are_right_narrow(
     marks: &mut [u8],
     i: usize,
     p: usize,
-) -> u32
+    flag: u32,
+) -> bool
     requires { ⌜ Queue kind (now queue) q ⌝ }
     requires { ⌜ Placing s (now node) (now table) (now seats) i p ⌝ }
     requires { ⌜ s .m < length (now marks) ⌝ }
-    ensures { λ r. ⌜ Told (lettersRight s (now (node .entry)) (now (table .entry)) i p (now (marks .entry)) (live (contents kind (now (queue .entry)) q))) (gapFlag (contents kind (now (queue .entry)) q)) (marked (now (marks .entry)) (chains s (now (node .entry)) (live (contents kind (now (queue .entry)) q)))) r (now (marks .exit)) ⌝ }
+    ensures { λ r. ⌜ Judged (eqb flag (gapFlag (contents kind (now (queue .entry)) q)) && lettersRight s (now (node .entry)) (now (table .entry)) i p (now (marks .entry)) (live (contents kind (now (queue .entry)) q))) (marked (now (marks .entry)) (chains s (now (node .entry)) (live (contents kind (now (queue .entry)) q)))) r (now (marks .exit)) ⌝ }
 {
     let first = queue[q] as usize;
     let count = queue[q + 1] as usize;
@@ -232,16 +234,16 @@ fn are_right_narrow(
             gap = 1;
         } else {
             if !visits::is_right_letter(node, s, table, seats, marks, i, p, b) {
-                return 2;
+                return false;
             }
         }
         j += 1;
     }
-    gap
+    flag == gap
 }
 
-// The same of a queue that may not be in shape: 2 where it is not.
-fn is_filled(
+// Whether a queue with items is in shape, its first item is no gap, its gap flag is `flag`, and its letters are right; marks their blocks.
+pub fn is_filled(
     queue: &[u32],
     kind: Kind,
     q: usize,
@@ -256,19 +258,23 @@ fn is_filled(
     post: bool,
     k: u32,
     owner: u32,
-) -> u32
+    flag: u32,
+) -> bool
     requires { ⌜ Placed kind (now queue) q ⌝ }
     requires { ⌜ Placing s (now node) (now table) (now seats) i p ⌝ }
     requires { ⌜ Aimed (now table) i p post k owner ⌝ }
     requires { ⌜ before ≡ blockAt s 1 - 1 ⌝ }
     requires { ⌜ s .m < length (now marks) ⌝ }
-    ensures { λ r. ⌜ Told (inShape kind (now (queue .entry)) q && lettersRight s (now (node .entry)) (now (table .entry)) i p (now (marks .entry)) (live (contents kind (now (queue .entry)) q))) (gapFlag (contents kind (now (queue .entry)) q)) (marked (now (marks .entry)) (chains s (now (node .entry)) (live (contents kind (now (queue .entry)) q)))) r (now (marks .exit)) ⌝ }
+    ensures { λ r. ⌜ Judged (filledRight kind (now (queue .entry)) q flag && lettersRight s (now (node .entry)) (now (table .entry)) i p (now (marks .entry)) (live (contents kind (now (queue .entry)) q))) (marked (now (marks .entry)) (chains s (now (node .entry)) (live (contents kind (now (queue .entry)) q)))) r (now (marks .exit)) ⌝ }
 {
     if !shapes::is_in_shape(queue, kind, q) {
-        return 2;
+        return false;
+    }
+    if queues::item(queue, kind, q, 0) == 0 {
+        return false;
     }
     if s.b <= 5 {
-        return are_right_narrow(queue, kind, q, node, s, table, seats, marks, i, p);
+        return are_right_narrow(queue, kind, q, node, s, table, seats, marks, i, p, flag);
     }
     are_right_items(
         queue,
@@ -284,96 +290,6 @@ fn is_filled(
         post,
         k,
         owner,
+        flag,
     )
-}
-
-// Whether a send or acknowledge queue of letters from node i to another node k is right, and so are its letters; marks their blocks.
-pub fn is_filled_post(
-    queue: &[u32],
-    kind: Kind,
-    q: usize,
-    node: &[u32],
-    s: Settings,
-    before: usize,
-    table: &[u32],
-    seats: &[u32],
-    marks: &mut [u8],
-    i: usize,
-    p: usize,
-    k: u32,
-) -> bool
-    requires { ⌜ Placed kind (now queue) q ⌝ }
-    requires { ⌜ Placing s (now node) (now table) (now seats) i p ⌝ }
-    requires { ⌜ Aimed (now table) i p true k 0 ⌝ }
-    requires { ⌜ before ≡ blockAt s 1 - 1 ⌝ }
-    requires { ⌜ s .m < length (now marks) ⌝ }
-    ensures { λ r. ⌜ Judged (rightPost kind (now (queue .entry)) q (s .m) false && lettersRight s (now (node .entry)) (now (table .entry)) i p (now (marks .entry)) (live (contents kind (now (queue .entry)) q))) (marked (now (marks .entry)) (chains s (now (node .entry)) (live (contents kind (now (queue .entry)) q)))) r (now (marks .exit)) ⌝ }
-{
-    let gap = is_filled(
-        queue,
-        kind,
-        q,
-        node,
-        s,
-        before,
-        table,
-        seats,
-        marks,
-        i,
-        p,
-        true,
-        k,
-        0,
-    );
-    gap == 0
-}
-
-// Whether a task queue that has items is right, and so are its letters; marks their blocks. `task`: the task that it is bound to, 0 for none.
-pub fn is_filled_seat(
-    queue: &[u32],
-    kind: Kind,
-    q: usize,
-    node: &[u32],
-    s: Settings,
-    before: usize,
-    table: &[u32],
-    seats: &[u32],
-    marks: &mut [u8],
-    i: usize,
-    p: usize,
-    task: u32,
-) -> bool
-    requires { ⌜ (Placed kind (now queue) q) × (3 ≤ kind .head) × (1 ≤ items kind (now queue) q) ⌝ }
-    requires { ⌜ Placing s (now node) (now table) (now seats) i p ⌝ }
-    requires { ⌜ Aimed (now table) i p false 0 task ⌝ }
-    requires { ⌜ before ≡ blockAt s 1 - 1 ⌝ }
-    requires { ⌜ s .m < length (now marks) ⌝ }
-    ensures { λ r. ⌜ Judged (rightSeat kind (now (queue .entry)) q (s .m) task && lettersRight s (now (node .entry)) (now (table .entry)) i p (now (marks .entry)) (live (contents kind (now (queue .entry)) q))) (marked (now (marks .entry)) (chains s (now (node .entry)) (live (contents kind (now (queue .entry)) q)))) r (now (marks .exit)) ⌝ }
-{
-    if task == 0 {
-        return false;
-    }
-    let gap = is_filled(
-        queue,
-        kind,
-        q,
-        node,
-        s,
-        before,
-        table,
-        seats,
-        marks,
-        i,
-        p,
-        false,
-        0,
-        task,
-    );
-    if gap == 2 {
-        return false;
-    }
-    if queues::item(queue, kind, q, 0) == 0 {
-        return false;
-    }
-    queue[q + 2] == gap
 }

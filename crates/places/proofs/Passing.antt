@@ -15,24 +15,24 @@ use Rattle.places.specs.Runs.{Row, passedRight, Run}
 use Rattle.places.proofs.Ranges.{rightAt, range-no, range-bare}
 use Rattle.places.proofs.Empties.{one-wrong, all-right, place-bare, place-empty}
 
-module _ (s : Settings) (memory l t row : List ℕ) (i : ℕ) (g : Lent s memory l t row i) (kind : Kind) (at step p n : ℕ) (post : Bool) (run : Run s memory l t row i kind at step p n post) where
-  pub run-row : Row kind l at step n
-  run-row = record { placed = λ j h. run .stands j h .placed; small = run .small }
+module _ (s : Settings) (memory l t row : List ℕ) (i : ℕ) (g : Lent s memory l t row i) (m : List ℕ) (kind : Kind) (at step p first n : ℕ) (post : Bool) (run : Run s memory m t row i kind at step p first n post) where
+  pub run-row : Row kind m at step n
+  run-row = record { placed = λ j h. run .stands j h .placed; some = run .some; few = run .few; small = run .small }
 
-  module _ (old : List ℕ) (k r : ℕ) (most : r ≤ n) (bare : (j : ℕ) → k ≤ j → j < r → items kind l (at + j * step) ≡ 0) where
-    pub run-to : k ≤ r → every r (passedRight kind l at step k) ≡ true → (marks : List ℕ) → every k (rightAt s memory l t i p old) ≡ true → marks ≡ marked old (standingFrom s memory i p k)
+  module _ (old : List ℕ) (k r : ℕ) (most : r ≤ n) (bare : (j : ℕ) → k ≤ j → j < r → items kind m (at + j * step) ≡ 0) where
+    pub run-to : k ≤ r → every r (passedRight kind m at step k) ≡ true → (marks : List ℕ) → every k (rightAt s memory l t i p old) ≡ true → marks ≡ marked old (standingFrom s memory i p k)
         → (every r (rightAt s memory l t i p old) ≡ true) × (marks ≡ marked old (standingFrom s memory i p r))
     run-to h right marks w e =
         let q : k + (r - k) ≡ r = omega arith in
         rw q at (range-bare s memory l t row i g p old marks k w e (r - k) (λ j a b.
         let z = bare j a (omega arith) in
         let d = run .stands j (omega arith) in
-        let y = sym (place-empty s memory l t row i kind (at + j * step) (p + j) j post d z) ∙ all-right kind l at step k r right j a (omega arith) in
-        (y, place-bare s memory l t row i kind (at + j * step) (p + j) j post d z y)))
+        let y = sym (place-empty s memory m t row i kind (at + j * step) (p + j) (first + j) post d z) ∙ all-right kind m at step k r right j a (omega arith) in
+        (y, place-bare s memory m t row i kind (at + j * step) (p + j) (first + j) post d z y)))
 
-    pub run-wrong : every r (passedRight kind l at step k) ≡ false → (new : List ℕ) → Judged (rangeRight s memory i p n old) (marked old (standingFrom s memory i p n)) false new
+    pub run-wrong : every r (passedRight kind m at step k) ≡ false → (new : List ℕ) → Judged (rangeRight s memory i p n old) (marked old (standingFrom s memory i p n)) false new
     run-wrong wrong new =
-        let o = one-wrong kind l at step k r wrong in
+        let o = one-wrong kind m at step k r wrong in
         let z = bare (o .0) (o .1) (o .2) in
         let h : o .0 < n = omega (arith, o .2) in
-        range-no s memory l t row i g p old (o .0) (sym (place-empty s memory l t row i kind (at + o .0 * step) (p + o .0) (o .0) post (run .stands (o .0) h) z) ∙ o .3) n h new
+        range-no s memory l t row i g p old (o .0) (sym (place-empty s memory m t row i kind (at + o .0 * step) (p + o .0) (first + o .0) post (run .stands (o .0) h) z) ∙ o .3) n h new

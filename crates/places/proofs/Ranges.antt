@@ -2,7 +2,7 @@
 use mathlib.Core.Path.{_≡_, refl, sym, ap, ap₂, _∙_}
 use mathlib.Core.Bool.{Bool, true, false, _&&_, false≢true}
 use mathlib.Core.List.{List, [], _++_, append-nil, append-assoc}
-use Prim.Native.Nat.{ℕ, zero, suc, _+_, _≤_, _<_}
+use Prim.Native.Nat.{ℕ, zero, suc, _+_, _-_, _≤_, _<_}
 use native.Mathlib.Nat.{add-zero, zero-add, add-assoc, add-suc}
 use native.Mathlib.Numerals.{add-one}
 use native.Mathlib.Omega.{arith}
@@ -79,6 +79,13 @@ module _ (s : Settings) (memory l t row : List ℕ) (i : ℕ) (g : Lent s memory
             ∙ ap (λ (m : List ℕ). marked old (standingFrom s memory i a k ++ chains s m (begun s memory i (a + k)))) (g .stretch)),
       )
 
+  -- one place with no letter
+  pub range-one : queueRight s memory i a ≡ true → begun s memory i a ≡ [] → Judged (rangeRight s memory i a 1 old) (marked old (standingFrom s memory i a 1)) true old
+  range-one y z =
+      let b = range-start in
+      let n = range-none old 0 (b .0) (b .1) (rw (add-zero a) y) (rw (add-zero a) z) in
+      range-end old 1 (n .0) (n .1) 1 refl
+
   -- places with no letter, one behind the other
   pub range-bare : (marks : List ℕ) (k : ℕ) → every k (rightAt s memory l t i a old) ≡ true → marks ≡ marked old (standingFrom s memory i a k)
       → (d : ℕ) → ((j : ℕ) → k ≤ j → j < k + d → (queueRight s memory i (a + j) ≡ true) × (begun s memory i (a + j) ≡ []))
@@ -127,6 +134,17 @@ module _ (s : Settings) (memory : List ℕ) (i a n : ℕ) where
           is = w .is ∙ sym (two ∙ rw (sym (v .is) ∙ f, m));
           marks = λ h. w .marks h ∙ rw m (sym (ap (marked old) (standing-join k) ∙ marked-append old (standingFrom s memory i a n) (standingFrom s memory i (a + n) k)));
         }
+
+-- one place more, of six
+module _ (s : Settings) (memory : List ℕ) (i a k : ℕ) (old mid : List ℕ) (v : Judged (rangeRight s memory i a k old) (marked old (standingFrom s memory i a k)) true mid) (r : Bool) (new : List ℕ)
+    (w : Judged (rangeRight s memory i (a + k) 1 mid) (marked mid (standingFrom s memory i (a + k) 1)) r new) where
+  pub one-more : r ≡ true → Judged (rangeRight s memory i a (k + 1) old) (marked old (standingFrom s memory i a (k + 1))) true new
+  one-more f = rw f at (join-next s memory i a k 1 old true mid v refl r new w)
+
+  pub one-bad : (n : ℕ) → k < n → r ≡ false → Judged (rangeRight s memory i a n old) (marked old (standingFrom s memory i a n)) false new
+  one-bad n h f =
+      let e : k + 1 + (n - (k + 1)) ≡ n = omega arith in
+      rw e at (join-bad s memory i a (k + 1) (n - (k + 1)) old r new (join-next s memory i a k 1 old true mid v refl r new w) f new)
 
 -- ---- all places
 module _ (s : Settings) (memory : List ℕ) (i : ℕ) (old : List ℕ) where

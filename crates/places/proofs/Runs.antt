@@ -3,7 +3,7 @@ use mathlib.Core.Path.{_≡_, refl, sym, ap, _∙_}
 use mathlib.Core.Bool.{true, false}
 use mathlib.Core.List.{List}
 use Prim.Native.Nat.{ℕ, _+_, _*_, _<_}
-use native.Mathlib.Nat.{zero-mul}
+use native.Mathlib.Nat.{zero-add, zero-mul}
 use native.Mathlib.Omega.{arith}
 use lib.ListN.{getD}
 use Rattle.settings.specs.declared.Settings.{Settings}
@@ -45,29 +45,33 @@ module _ (s : Settings) (memory l t row : List ℕ) (i : ℕ) (g : Lent s memory
           full = refl;
           rule = rw (g .stretch) (seat-task s memory i j (getD row (seatAt i j) 0) (o ∙ ap (λ (ids : List ℕ). taskOf ids i j) (g .table)) ∙ sym (queue-task s memory i j h));
           begins = λ y. task-begun s memory i j h l (g .stretch);
-          aim = aim-task t i j h (getD row (seatAt i j) 0) o;
+          aim = aim-task t i j h j (getD row (seatAt i j) 0) o;
         }
 
   -- ---- one behind the other
   module _ (kind : Kind) (at step : ℕ) where
-    pub send-run : kind ≡ sendKind s → at ≡ sendAt s 0 → step ≡ 3 + s .s → Run s memory l t row i kind at step 1 6 true
+    pub send-run : kind ≡ sendKind s → at ≡ sendAt s 0 → step ≡ 3 + s .s → Run s memory l t row i kind at step 1 0 6 true
     unfolding sendAt
     send-run ek ea es =
         let r = g .looked .sized .range in
         record {
           stands = λ j h.
               let e : at + j * step ≡ sendAt s j = rw (ea, es) (omega (arith, zero-mul (3 + s .s))) in
-              rw (ek, e) (send-stands j h);
+              rw (ek, e, zero-add j) (send-stands j h);
+          some = rw ek (r .s .low);
+          few = rw ek (r .s .high);
           small = rw (ea, es) (omega (arith, zero-mul (3 + s .s), r .s .high));
         }
 
-    pub task-run : kind ≡ taskKind s → at ≡ taskAt s 0 → step ≡ 5 + s .t → Run s memory l t row i kind at step 13 64 false
+    pub task-run : kind ≡ taskKind s → at ≡ taskAt s 0 → step ≡ 5 + s .t → Run s memory l t row i kind at step 13 0 64 false
     unfolding taskAt
     task-run ek ea es =
         let r = g .looked .sized .range in
         record {
           stands = λ j h.
               let e : at + j * step ≡ taskAt s j = rw (ea, es) (omega (arith, zero-mul (5 + s .t))) in
-              rw (ek, e) (task-stands j h);
+              rw (ek, e, zero-add j) (task-stands j h);
+          some = rw ek (r .t .low);
+          few = rw ek (r .t .high);
           small = rw (ea, es) (omega (arith, zero-mul (5 + s .t), r .s .high, r .a .high, r .t .high));
         }

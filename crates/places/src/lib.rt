@@ -51,42 +51,51 @@ fn is_right_hand(
     visits::is_right_letter(node, s, table, seats, marks, i, 0, memory[at + 2])
 }
 
-// What passing over queues with no items tells: the next queue that has items, or that one with none is not right.
+// What passing over queues with no items tells: the next queue that has items, that all have none, or that one with none is not right.
 pub enum Passed {
     To(usize),
+    All,
     Wrong,
 }
 
 // Passes over the queues with no items of a row, from queue k on. What is wrong with them is joined, and looked at where a queue has items
-// and where the row ends; the word before the full count is a task queue's gap flag, or a send queue's items, which are 0.
+// and where the row ends; the word before the full count is a task queue's gap flag, or a send queue's items, which are 0. A start with 256
+// less the slots added reaches 256 if it is no slot's.
 fn pass_empties(node: &[u32], kind: Kind, at: usize, step: usize, k: usize, n: usize) -> Passed
     requires { ⌜ Row kind (now node) at step n ⌝ }
     requires { ⌜ k ≤ n ⌝ }
     ensures { λ r. ⌜ Passes kind (now (node .entry)) at step k n r ⌝ }
 {
+    let spare = 256 - kind.slots;
+    let mut starts = spare;
+    let mut bits: u32 = 0;
     let mut q = at + k * step;
     let mut j = k;
-    let mut bits: u32 = 0;
     while j < n {
         if node[q + 1] != 0 {
-            if bits != 0 {
+            if (starts / 256 | bits as usize) != 0 {
                 return Passed::Wrong;
             }
             return Passed::To(j);
         }
-        bits = bits | (shapes::bits_of_empty(node, kind, q) | node[q + (kind.full - 1)]);
+        starts = starts | (spare + node[q] as usize);
+        let slots = q + kind.head;
+        bits = bits
+            | (shapes::bits_of_slots(node, slots, slots + kind.slots) | node[q + (kind.full - 1)]);
         q += step;
         j += 1;
     }
-    if bits != 0 {
+    if (starts / 256 | bits as usize) != 0 {
         return Passed::Wrong;
     }
-    Passed::To(j)
+    Passed::All
 }
 
-// A queue with items, the jth of its kind, at word q of node i's stretch, and its letters at place p. `post`: a send queue, else a task queue.
+// A queue with items, the jth of its kind, at word q of a stretch, and its letters at place p of node i. `post`: a send or acknowledge
+// queue, else a task queue. The one call of is_filled, so that the compiler has the numbers at hand there.
 fn is_right_filled(
     memory: &[u32],
+    queue: &[u32],
     node: &[u32],
     s: Settings,
     before: usize,
@@ -104,32 +113,25 @@ fn is_right_filled(
     requires { ⌜ linksLow s (now node) ≡ true ⌝ }
     requires { ⌜ s .m < length (now marks) ⌝ }
     requires { ⌜ before ≡ blockAt s 1 - 1 ⌝ }
-    requires { ⌜ Stands s (now memory) (now node) (now table) (now seats) i kind q p j post ⌝ }
-    requires { ⌜ 1 ≤ items kind (now node) q ⌝ }
+    requires { ⌜ Stands s (now memory) (now queue) (now table) (now seats) i kind q p j post ⌝ }
+    requires { ⌜ 1 ≤ items kind (now queue) q ⌝ }
     ensures { λ r. ⌜ Judged (queueRight s (now (memory .entry)) i p && lettersRight s (now (node .entry)) (now (table .entry)) i p (now (marks .entry)) (begun s (now (memory .entry)) i p)) (marked (now (marks .entry)) (chains s (now (node .entry)) (begun s (now (memory .entry)) i p))) r (now (marks .exit)) ⌝ }
 {
+    let mut owner: u32 = 0;
+    let mut flag: u32 = 0;
     if post {
         if j == i {
             return false;
         }
-        return judging::is_filled_post(
-            node,
-            kind,
-            q,
-            node,
-            s,
-            before,
-            table,
-            seats,
-            marks,
-            i,
-            p,
-            j as u32,
-        );
+    } else {
+        flag = queue[q + 2];
+        owner = seats[i * 64 + j];
+        if owner == 0 {
+            return false;
+        }
     }
-    let task = seats[i * 64 + j];
-    judging::is_filled_seat(
-        node,
+    judging::is_filled(
+        queue,
         kind,
         q,
         node,
@@ -140,13 +142,18 @@ fn is_right_filled(
         marks,
         i,
         p,
-        task,
+        post,
+        j as u32,
+        owner,
+        flag,
     )
 }
 
-// The queues of a row, n of one kind from place p on, and their letters; most queues have no items, and are passed over.
+// The queues of a row, n of one kind from place p on, the first with the number `first`, and their letters; most queues have no items, and
+// are passed over.
 fn are_right_queues(
     memory: &[u32],
+    queue: &[u32],
     node: &[u32],
     s: Settings,
     before: usize,
@@ -158,6 +165,7 @@ fn are_right_queues(
     at: usize,
     step: usize,
     p: usize,
+    first: usize,
     n: usize,
     post: bool,
 ) -> bool
@@ -165,20 +173,20 @@ fn are_right_queues(
     requires { ⌜ linksLow s (now node) ≡ true ⌝ }
     requires { ⌜ s .m < length (now marks) ⌝ }
     requires { ⌜ before ≡ blockAt s 1 - 1 ⌝ }
-    requires { ⌜ Run s (now memory) (now node) (now table) (now seats) i kind at step p n post ⌝ }
+    requires { ⌜ Run s (now memory) (now queue) (now table) (now seats) i kind at step p first n post ⌝ }
     ensures { λ r. ⌜ Judged (rangeRight s (now (memory .entry)) i p n (now (marks .entry))) (marked (now (marks .entry)) (standingFrom s (now (memory .entry)) i p n)) r (now (marks .exit)) ⌝ }
 {
     let mut k: usize = 0;
     while k < n {
-        let Passed::To(j) = pass_empties(node, kind, at, step, k, n) else {
-            return false;
+        let j = match pass_empties(queue, kind, at, step, k, n) {
+            Passed::To(j) => j,
+            Passed::All => return true,
+            Passed::Wrong => return false,
         };
-        if j == n {
-            return true;
-        }
         let q = at + j * step;
         if !is_right_filled(
             memory,
+            queue,
             node,
             s,
             before,
@@ -189,7 +197,7 @@ fn are_right_queues(
             kind,
             q,
             p + j,
-            j,
+            first + j,
             post,
         ) {
             return false;
@@ -222,6 +230,7 @@ fn are_right_sends(
     are_right_queues(
         memory,
         node,
+        node,
         s,
         before,
         table,
@@ -232,12 +241,13 @@ fn are_right_sends(
         at,
         step,
         1,
+        0,
         6,
         true,
     )
 }
 
-// Acknowledge queue i on the six nodes and its letters, places 7 to 12.
+// Acknowledge queue i on the six nodes and its letters, places 7 to 12; one that has items is a row by itself.
 fn are_right_acks(
     memory: &[u32],
     node: &[u32],
@@ -266,13 +276,9 @@ fn are_right_acks(
                 return false;
             }
         } else {
-            if k == i {
-                return false;
-            }
-            if !judging::is_filled_post(
+            if !are_right_queues(
+                memory,
                 &memory[a..e],
-                kind,
-                q,
                 node,
                 s,
                 before,
@@ -280,8 +286,13 @@ fn are_right_acks(
                 seats,
                 marks,
                 i,
+                kind,
+                q,
+                0,
                 7 + k,
-                k as u32,
+                k,
+                1,
+                true,
             ) {
                 return false;
             }
@@ -314,6 +325,7 @@ fn are_right_tasks(
     are_right_queues(
         memory,
         node,
+        node,
         s,
         before,
         table,
@@ -324,6 +336,7 @@ fn are_right_tasks(
         at,
         step,
         13,
+        0,
         64,
         false,
     )
@@ -387,24 +400,22 @@ fn are_all_marked(marks: &[u8], m: usize) -> bool
     all
 }
 
-// Whether each link is that of a block, or 0: the greatest tells. They are looked at as they stand, before the walks want them in any
-// order: so they are near then, and a link that is followed needs no test.
+// Whether each link is that of a block, or 0. They are looked at as they stand, before the walks want them in any order: so they are near
+// then, and a link that is followed needs no test. A link with 2047 - M added reaches 2048 if it is above M: what they join to tells.
 fn are_links_low(node: &[u32], s: Settings) -> bool
     requires { ⌜ Stretch s (now node) ⌝ }
     ensures { λ r. ⌜ r ≡ linksLow s (now (node .entry)) ⌝ }
 {
-    let mut most: u32 = 0;
+    let spare = 2047 - s.m;
+    let mut bits = spare;
     let mut at = layout::link_at(s, 1);
     let mut b: usize = 0;
     while b < s.m {
-        let link = node[at];
-        if most < link {
-            most = link;
-        }
+        bits = bits | (spare + node[at] as usize);
         at += s.b;
         b += 1;
     }
-    most <= s.m as u32
+    bits < 2048
 }
 
 // The third, the fifth and the sixth rule over the places of node i, with no block marked yet.

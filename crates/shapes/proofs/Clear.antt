@@ -2,7 +2,7 @@
 use mathlib.Core.Path.{_≡_, refl, sym, ap, ap₂, _∙_}
 use mathlib.Core.Bool.{Bool, true, false, _&&_, _||_}
 use mathlib.Core.List.{List}
-use Prim.Native.Nat.{ℕ, suc, _+_, _-_, _%_, _≤_, _<_}
+use Prim.Native.Nat.{ℕ, zero, suc, _+_, _-_, _%_, _≤_, _<_}
 use native.Mathlib.Nat.{mod-eq-of-lt, mod-eq-sub-mod}
 use native.Mathlib.Omega.{arith}
 use mathlib.Core.Logic.{⊎-elim}
@@ -10,46 +10,29 @@ use lib.Dec.{eqb, ltb}
 use lib.ListN.{getD}
 use lib.Bits.{bitOr}
 use borrow.Author.Tests.{eqb-true, eq-eqb, lt-ltb, le-ltb, le-leb}
-use Rattle.words.specs.Words.{every}
 use Rattle.words.proofs.Bits.{or-zero}
-use Rattle.words.proofs.Lists.{le-or-lt, and-true, and-join, and-false, same-test, every-at, every-all}
+use Rattle.words.proofs.Lists.{le-or-lt, and-true, and-join, same-test, every-at, every-all}
 use Rattle.queues.specs.declared.Kind.{Kind}
 use Rattle.queues.specs.Queue.{start, items, itemAt}
 use Rattle.sound.specs.Queues.{inShape}
-use Rattle.sound.proofs.Tests.{every-none, and-yes, and-cross}
+use Rattle.sound.proofs.Tests.{and-yes, and-cross}
 use Rattle.shapes.specs.Shape.{zeroes, clearOutside}
 use Rattle.shapes.proofs.Steps.{shape-start}
 
 -- ---- words that are 0
 module _ (l : List ℕ) (a e : ℕ) where
-  abbrev zero : ℕ → Bool
-  zero i = eqb (getD l (a + i) 0) 0
+  abbrev zero-there : ℕ → Bool
+  zero-there i = eqb (getD l (a + i) 0) 0
 
   zero-at : zeroes l a e ≡ true → (p : ℕ) → a ≤ p → p < e → getD l p 0 ≡ 0
   unfolding zeroes
   zero-at h p x y =
       let d : a + (p - a) ≡ p = omega arith in
-      ap (λ (n : ℕ). getD l n 0) (sym d) ∙ eqb-true (getD l (a + (p - a)) 0) 0 (every-at zero (e - a) h (p - a) (omega arith))
+      ap (λ (n : ℕ). getD l n 0) (sym d) ∙ eqb-true (getD l (a + (p - a)) 0) 0 (every-at zero-there (e - a) h (p - a) (omega arith))
 
   zero-all : ((p : ℕ) → a ≤ p → p < e → getD l p 0 ≡ 0) → zeroes l a e ≡ true
   unfolding zeroes
-  zero-all f = every-all zero (e - a) (λ i h. eq-eqb (getD l (a + i) 0) 0 (f (a + i) (omega arith) (omega arith)))
-
-  -- a turn of the loop: the bits of the words so far are 0 when each of the words is
-  pub zero-none : true ≡ every (a - a) (λ i. eqb (getD l (a + i) 0) 0)
-  zero-none = let d : a - a ≡ 0 = omega arith in rw d (sym (every-none zero))
-
-  pub zero-more : (i bits : ℕ) → a ≤ i → eqb bits 0 ≡ every (i - a) (λ i. eqb (getD l (a + i) 0) 0)
-      → eqb (bitOr bits (getD l i 0)) 0 ≡ every (i + 1 - a) (λ i. eqb (getD l (a + i) 0) 0)
-  unfolding every
-  zero-more i bits h p =
-      let d : i + 1 - a ≡ suc (i - a) = omega arith in
-      let g : a + (i - a) ≡ i = omega arith in
-      or-zero bits (getD l i 0) ∙ rw (d, g) (ap (λ (b : Bool). b && eqb (getD l i 0) 0) p)
-
-  pub zero-all-told : (i bits : ℕ) → i ≡ e → eqb bits 0 ≡ every (i - a) (λ i. eqb (getD l (a + i) 0) 0) → eqb bits 0 ≡ zeroes l a e
-  unfolding zeroes
-  zero-all-told i bits q h = rw q at h
+  zero-all f = every-all zero-there (e - a) (λ i h. eq-eqb (getD l (a + i) 0) 0 (f (a + i) (omega arith) (omega arith)))
 
 -- ---- few words: the first of them and the last of them
 module _ (l : List ℕ) where
@@ -78,33 +61,79 @@ module _ (l : List ℕ) where
       ∙ ap₂ _&&_ (few-one a (a + 1) refl) (few-one (a + 1) (a + 2) (omega arith))
       ∙ sym (over a (a + 1) (a + 1) (a + 2) (omega arith) (omega arith) (omega arith))
 
-  -- what was joined of the first n words and of the last n
-  pub few-ends : (a e n x y : ℕ) → a + n ≤ e → e ≤ a + (n + n) → eqb x 0 ≡ zeroes l a (a + n) → eqb y 0 ≡ zeroes l (e - n) (e - n + n) → eqb (bitOr x y) 0 ≡ zeroes l a e
-  few-ends a e n x y h k u v =
+  -- what was joined of the first m words and of the last n
+  pub few-ends : (a e m n x y : ℕ) → a + m ≤ e → a + n ≤ e → e ≤ a + (m + n) → eqb x 0 ≡ zeroes l a (a + m) → eqb y 0 ≡ zeroes l (e - n) (e - n + n) → eqb (bitOr x y) 0 ≡ zeroes l a e
+  few-ends a e m n x y g h k u v =
       let d : e - n + n ≡ e = omega arith in
-      or-zero x y ∙ ap₂ _&&_ u (v ∙ ap (zeroes l (e - n)) d) ∙ sym (over a (e - n) (a + n) e (omega arith) (omega arith) (omega arith))
+      or-zero x y ∙ ap₂ _&&_ u (v ∙ ap (zeroes l (e - n)) d) ∙ sym (over a (e - n) (a + m) e (omega arith) (omega arith) (omega arith))
 
   -- what was joined of n words and of the next n
   pub few-twice : (a n x y : ℕ) → eqb x 0 ≡ zeroes l a (a + n) → eqb y 0 ≡ zeroes l (a + n) (a + n + n) → eqb (bitOr x y) 0 ≡ zeroes l a (a + (n + n))
   few-twice a n x y u v =
       let d : a + n ≡ a + (n + n) - n = omega arith in
-      few-ends a (a + (n + n)) n x y (omega arith) (omega arith) u (rw d at v)
+      few-ends a (a + (n + n)) n n x y (omega arith) (omega arith) (omega arith) u (rw d at v)
 
-  -- ---- many words: a turn of the loop, beside what was joined of the last of them
-  module _ (a e n : ℕ) where
-    pub many-none : (x : ℕ) → eqb x 0 ≡ zeroes l (e - n) e → eqb x 0 ≡ zeroes l a a && zeroes l (e - n) e
-    many-none x u = rw (← few-none a a refl) u
+  -- ---- a turn of a loop that joins a word
+  next : (a i : ℕ) → zeroes l a (a + i) && eqb (getD l (a + i) 0) 0 ≡ zeroes l a (a + (i + 1))
+  next a i =
+      ap (λ (b : Bool). zeroes l a (a + i) && b) (few-one (a + i) (a + (i + 1)) (omega arith))
+      ∙ sym (over a (a + i) (a + i) (a + (i + 1)) (omega arith) (omega arith) (omega arith))
 
-    pub many-more : (i m x y : ℕ) → a ≤ i → eqb x 0 ≡ zeroes l a i && zeroes l (e - n) e → eqb y 0 ≡ zeroes l i (i + m) → eqb (bitOr x y) 0 ≡ zeroes l a (i + m) && zeroes l (e - n) e
-    many-more i m x y k u v =
-        let p : Bool = zeroes l a i in
-        let q : Bool = zeroes l (e - n) e in
-        let r : Bool = zeroes l i (i + m) in
-        let w : (p && q) && r ≡ (p && r) && q = rw (and-yes r, and-yes q) at (and-cross p q r true) in
-        or-zero x y ∙ ap₂ _&&_ u v ∙ w ∙ sym (ap (λ (b : Bool). b && q) (over a i i (i + m) k (omega arith) (omega arith)))
+  pub joined-none : (a : ℕ) → true ≡ zeroes l a (a + 0)
+  joined-none a = few-none a (a + 0) (omega arith)
 
-    pub many-all : (i x : ℕ) → a + n ≤ e → a ≤ i → e ≤ i + n → i ≤ e → eqb x 0 ≡ zeroes l a i && zeroes l (e - n) e → eqb x 0 ≡ zeroes l a e
-    many-all i x h j k m u = u ∙ sym (over a (e - n) i e (omega arith) (omega arith) m)
+  pub joined-more : (a i x : ℕ) → eqb x 0 ≡ zeroes l a (a + i) → eqb (bitOr x (getD l (a + i) 0)) 0 ≡ zeroes l a (a + (i + 1))
+  joined-more a i x u =
+      or-zero x (getD l (a + i) 0)
+      ∙ ap (λ (b : Bool). b && eqb (getD l (a + i) 0) 0) u
+      ∙ next a i
+
+  pub joined-all : (a i n x : ℕ) → i ≡ n → eqb x 0 ≡ zeroes l a (a + i) → eqb x 0 ≡ zeroes l a (a + n)
+  joined-all a i n x e u = u ∙ ap (λ (j : ℕ). zeroes l a (a + j)) e
+
+  -- ---- a turn of a loop that joins a word from a on and a word from b on
+  module _ (a b : ℕ) where
+    pub halves-none : true ≡ zeroes l a (a + 0) && zeroes l b (b + 0)
+    halves-none = ap₂ _&&_ (joined-none a) (joined-none b)
+
+    pub halves-more : (i x : ℕ) → eqb x 0 ≡ zeroes l a (a + i) && zeroes l b (b + i) → eqb (bitOr x (bitOr (getD l (a + i) 0) (getD l (b + i) 0))) 0 ≡ zeroes l a (a + (i + 1)) && zeroes l b (b + (i + 1))
+    halves-more i x u =
+        let y : ℕ = getD l (a + i) 0 in
+        let z : ℕ = getD l (b + i) 0 in
+        or-zero x (bitOr y z)
+        ∙ ap₂ _&&_ u (or-zero y z)
+        ∙ and-cross (zeroes l a (a + i)) (zeroes l b (b + i)) (eqb y 0) (eqb z 0)
+        ∙ ap₂ _&&_ (next a i) (next b i)
+
+    -- the two reach over each other: one row
+    pub halves-all : (i e x : ℕ) → a ≤ b → b ≤ a + i → b + i ≡ e → eqb x 0 ≡ zeroes l a (a + i) && zeroes l b (b + i) → eqb x 0 ≡ zeroes l a e
+    halves-all i e x h k d u = u ∙ ap (λ (n : ℕ). zeroes l a (a + i) && zeroes l b n) d ∙ sym (over a b (a + i) e h k (omega arith))
+
+-- ---- two rows of words, one in each turn of a loop: from a on, before e, and then from b on, before d
+module _ (l : List ℕ) (b d : ℕ) where
+  -- what is left to look at
+  unfoldable pub left : ℕ → ℕ → ℕ → Bool
+  left zero a e = zeroes l a e && zeroes l b d
+  left (suc zero) a e = zeroes l a e
+  left (suc (suc t)) a e = true
+
+  pub left-no : (t a e : ℕ) → t < 2 → zeroes l a e ≡ false → left t a e ≡ false
+  unfolding left
+  left-no zero a e h z = rw z
+  left-no (suc zero) a e h z = z
+  left-no (suc (suc t)) a e h z = absurd (omega arith)
+
+  pub left-more : (t a e : ℕ) → t < 2 → zeroes l a e ≡ true → left t a e ≡ left (t + 1) b d
+  unfolding left
+  left-more zero a e h z = rw z
+  left-more (suc zero) a e h z = z
+  left-more (suc (suc t)) a e h z = absurd (omega arith)
+
+  pub left-all : (t a e : ℕ) → 2 ≤ t → left t a e ≡ true
+  unfolding left
+  left-all zero a e h = absurd (omega arith)
+  left-all (suc zero) a e h = absurd (omega arith)
+  left-all (suc (suc t)) a e h = refl
 
 -- ---- a queue's slots
 module _ (k : Kind) (l : List ℕ) (q : ℕ) where
@@ -194,25 +223,15 @@ module _ (k : Kind) (l : List ℕ) (q first count : ℕ) (x : (first ≡ start k
   cs : items k l q ≤ k .slots
   cs = omega arith
 
-  pub told-round : k .slots < first + count → (r : Bool) → r ≡ zeroes l (q + k .head + (first + count - k .slots)) (q + k .head + first) → r ≡ clearOutside k l q
-  told-round h r e =
-      let e′ : r ≡ zeroes l (q + k .head + (start k l q + items k l q - k .slots)) (q + k .head + start k l q) = rw (x .0, y .0) at e in
-      e′ ∙ clear-round k l q fs cs (omega arith)
+  -- the two rows of words to look at
+  module _ (a e d : ℕ) where
+    pub told-straight : first + count ≤ k .slots → a ≡ q + k .head + (first + count) → e ≡ q + k .head + k .slots → d ≡ q + k .head + first → clearOutside k l q ≡ zeroes l a e && zeroes l (q + k .head) d
+    told-straight h u v w = rw (u, v, w, x .0, y .0) (sym (clear-straight k l q fs cs (omega arith)))
 
-  module _ (h : first + count ≤ k .slots) (r : Bool) (e : r ≡ zeroes l (q + k .head + (first + count)) (q + k .head + k .slots)) where
-    behind-is : r ≡ zeroes l (q + k .head + (start k l q + items k l q)) (q + k .head + k .slots)
-    behind-is = rw (x .0, y .0) at e
-
-    pub told-behind : r ≡ false → false ≡ clearOutside k l q
-    told-behind z =
-        let n : zeroes l (q + k .head + (start k l q + items k l q)) (q + k .head + k .slots) ≡ false = sym behind-is ∙ z in
-        sym (sym (clear-straight k l q fs cs (omega arith)) ∙ ap (λ (b : Bool). b && zeroes l (q + k .head) (q + k .head + start k l q)) n)
-
-    pub told-before : r ≡ true → (s : Bool) → s ≡ zeroes l (q + k .head) (q + k .head + first) → s ≡ clearOutside k l q
-    told-before z s g =
-        let n : zeroes l (q + k .head + (start k l q + items k l q)) (q + k .head + k .slots) ≡ true = sym behind-is ∙ z in
-        let g′ : s ≡ zeroes l (q + k .head) (q + k .head + start k l q) = rw (x .0) at g in
-        g′ ∙ sym (ap (λ (b : Bool). b && zeroes l (q + k .head) (q + k .head + start k l q)) n) ∙ clear-straight k l q fs cs (omega arith)
+    pub told-round : k .slots < first + count → a ≡ q + k .head + (first + count - k .slots) → e ≡ q + k .head + first → d ≡ q + k .head → clearOutside k l q ≡ zeroes l a e && zeroes l (q + k .head) d
+    told-round h u v w =
+        rw (u, v, w, x .0, y .0, ← few-none l (q + k .head) (q + k .head) refl)
+        (sym (and-yes (zeroes l (q + k .head + (start k l q + items k l q - k .slots)) (q + k .head + start k l q)) ∙ clear-round k l q fs cs (omega arith)))
 
 -- ---- a queue with no items: all its slots, as they stand
 module _ (k : Kind) (l : List ℕ) (q : ℕ) (none : items k l q ≡ 0) where
@@ -231,11 +250,10 @@ module _ (k : Kind) (l : List ℕ) (q : ℕ) (none : items k l q ≡ 0) where
       (le-or-lt (q + k .head + z) p)))
       ∙ clear-straight k l q h (omega arith) (omega arith))
 
-  -- what is wrong with it, joined: a slot that is not 0, and a start that is too great
-  pub empty-bits : (full over : ℕ) → eqb full 0 ≡ zeroes l (q + k .head) (q + k .head + k .slots) → eqb over 0 ≡ ltb (start k l q) (k .slots) → eqb (bitOr full over) 0 ≡ inShape k l q
-  empty-bits full over u v =
-      or-zero full over ∙ ap₂ _&&_ u v
-      ∙ ⊎-elim
-      (λ h. rw (le-ltb (start k l q) (k .slots) h) (and-false (zeroes l (q + k .head) (q + k .head + k .slots)) ∙ shape-start k l q h))
-      (λ h. rw (lt-ltb (start k l q) (k .slots) h) (and-yes (zeroes l (q + k .head) (q + k .head + k .slots)) ∙ empty-is h))
+  -- its start is below its length, and its slots are 0
+  pub empty-shape : inShape k l q ≡ ltb (start k l q) (k .slots) && zeroes l (q + k .head) (q + k .head + k .slots)
+  empty-shape =
+      ⊎-elim
+      (λ h. rw (le-ltb (start k l q) (k .slots) h) (sym (shape-start k l q h)))
+      (λ h. rw (lt-ltb (start k l q) (k .slots) h) (sym (empty-is h)))
       (le-or-lt (k .slots) (start k l q))

@@ -40,37 +40,44 @@ fn bits_of_sixteen(node: &[u32], a: usize) -> u32
     bits_of_eight(node, a) | bits_of_eight(node, a + 8)
 }
 
-// The words from a on, before e, joined: 32 words or more, taken 32 at a time, the last 32 first.
+// The words from a on, before e, joined: 32 words or more. The first and the last of them, as many of each and a multiple of eight, side by
+// side: so the compiler takes sixteen at a time with no rest.
 fn bits_of_many(node: &[u32], a: usize, e: usize) -> u32
     requires { ⌜ (a + 32 ≤ e) × (e ≤ length (now node)) ⌝ }
     ensures { λ r. ⌜ eqb r 0 ≡ zeroes (now (node .entry)) a e ⌝ }
 {
-    let mut bits: u32 = bits_of_sixteen(node, e - 32) | bits_of_sixteen(node, e - 16);
-    let mut i = a;
-    while i + 32 < e {
-        bits = bits | (bits_of_sixteen(node, i) | bits_of_sixteen(node, i + 16));
-        i += 32;
+    let half = (e - a + 15) / 16 * 8;
+    let second = e - half;
+    let mut bits: u32 = 0;
+    let mut i: usize = 0;
+    while i < half {
+        bits = bits | (node[a + i] | node[second + i]);
+        i += 1;
     }
     bits
 }
 
-// Whether the words from a on, before e, are 0. All are joined and then looked at, so that the compiler may take many at a time.
+// Whether the words from a on, before e, are 0: more than eight. All are joined and then looked at, so that the compiler may take
+// many at a time; up to 32 with no loop, the first and the last eight or sixteen of them.
 fn are_many_zero(node: &[u32], a: usize, e: usize) -> bool
-    requires { ⌜ (a ≤ e) × (e ≤ length (now node)) ⌝ }
+    requires { ⌜ (a + 9 ≤ e) × (e ≤ length (now node)) ⌝ }
     ensures { λ r. ⌜ r ≡ zeroes (now (node .entry)) a e ⌝ }
 {
-    let mut bits: u32 = 0;
-    let mut i = a;
-    while i < e {
-        bits = bits | node[i];
-        i += 1;
+    let n = e - a;
+    if 32 < n {
+        return bits_of_many(node, a, e) == 0;
     }
+    if 16 < n {
+        let bits = bits_of_sixteen(node, a) | bits_of_sixteen(node, e - 16);
+        return bits == 0;
+    }
+    let bits = bits_of_eight(node, a) | bits_of_eight(node, e - 8);
     bits == 0
 }
 
-// The same of two words or more. The first and the last two or four of a few are joined, with no loop.
+// The same of two to eight words. The first and the last two or four of them are joined, with no loop.
 fn are_some_zero(node: &[u32], a: usize, e: usize) -> bool
-    requires { ⌜ (a + 2 ≤ e) × (e ≤ length (now node)) ⌝ }
+    requires { ⌜ (a + 2 ≤ e) × (e ≤ a + 8) × (e ≤ length (now node)) ⌝ }
     ensures { λ r. ⌜ r ≡ zeroes (now (node .entry)) a e ⌝ }
 {
     let n = e - a;
@@ -78,11 +85,8 @@ fn are_some_zero(node: &[u32], a: usize, e: usize) -> bool
         let bits = bits_of_two(node, a) | bits_of_two(node, e - 2);
         return bits == 0;
     }
-    if n < 9 {
-        let bits = bits_of_four(node, a) | bits_of_four(node, e - 4);
-        return bits == 0;
-    }
-    are_many_zero(node, a, e)
+    let bits = bits_of_four(node, a) | bits_of_four(node, e - 4);
+    bits == 0
 }
 
 // The same of any words.
@@ -91,6 +95,9 @@ fn are_zero(node: &[u32], a: usize, e: usize) -> bool
     ensures { λ r. ⌜ r ≡ zeroes (now (node .entry)) a e ⌝ }
 {
     let n = e - a;
+    if 8 < n {
+        return are_many_zero(node, a, e);
+    }
     if n < 2 {
         if n == 0 {
             return true;
@@ -100,7 +107,8 @@ fn are_zero(node: &[u32], a: usize, e: usize) -> bool
     are_some_zero(node, a, e)
 }
 
-// Whether the slots outside the items are 0, as they stand: behind the last item and before the first, or between them where the items run round.
+// Whether the slots outside the items are 0, as they stand: behind the last item and then before the first, or between them and then none
+// where the items run round. A loop of two turns: the compiler inlines a function that is called at one place only.
 fn is_clear(node: &[u32], k: Kind, q: usize, first: usize, count: usize) -> bool
     requires { ⌜ Placed k (now node) q ⌝ }
     requires { ⌜ (first ≡ start k (now node) q) × (first < k .slots) ⌝ }
@@ -109,13 +117,24 @@ fn is_clear(node: &[u32], k: Kind, q: usize, first: usize, count: usize) -> bool
 {
     let base = q + k.head;
     let end = first + count;
+    let mut a = base + end;
+    let mut e = base + k.slots;
+    let mut last = base + first;
     if k.slots < end {
-        return are_zero(node, base + (end - k.slots), base + first);
+        a = base + (end - k.slots);
+        e = base + first;
+        last = base;
     }
-    if !are_zero(node, base + end, base + k.slots) {
-        return false;
+    let mut turn: usize = 0;
+    while turn < 2 {
+        if !are_zero(node, a, e) {
+            return false;
+        }
+        a = base;
+        e = last;
+        turn += 1;
     }
-    are_zero(node, base, base + first)
+    true
 }
 
 // Whether the start is below the queue's length, the items at most it, and the slots outside the items 0.
@@ -142,49 +161,45 @@ pub fn is_empty(node: &[u32], k: Kind, q: usize) -> bool
     node[q + 1] == 0
 }
 
-// Whether all slots of a queue are 0, as they stand: two or more. The first and the last of them are joined, with no loop where they are few.
-fn are_slots_zero(node: &[u32], a: usize, e: usize) -> bool
+// All slots of a queue, two or more, joined: 0 where each of them is 0. The widest first; more than four give 0 or 1, so that the compiler
+// tests a whole vector.
+pub fn bits_of_slots(node: &[u32], a: usize, e: usize) -> u32
     requires { ⌜ (a + 2 ≤ e) × (e ≤ length (now node)) ⌝ }
-    ensures { λ r. ⌜ r ≡ zeroes (now (node .entry)) a e ⌝ }
+    ensures { λ r. ⌜ eqb r 0 ≡ zeroes (now (node .entry)) a e ⌝ }
 {
     let n = e - a;
-    if n < 5 {
-        let bits = bits_of_two(node, a) | bits_of_two(node, e - 2);
-        return bits == 0;
+    if 32 < n {
+        if bits_of_many(node, a, e) == 0 {
+            return 0;
+        }
+        return 1;
     }
-    if n < 9 {
-        let bits = bits_of_four(node, a) | bits_of_four(node, e - 4);
-        return bits == 0;
-    }
-    if n < 17 {
-        let bits = bits_of_eight(node, a) | bits_of_eight(node, e - 8);
-        return bits == 0;
-    }
-    if n < 33 {
+    if 16 < n {
         let bits = bits_of_sixteen(node, a) | bits_of_sixteen(node, e - 16);
-        return bits == 0;
+        if bits == 0 {
+            return 0;
+        }
+        return 1;
     }
-    bits_of_many(node, a, e) == 0
+    if 8 < n {
+        let bits = bits_of_eight(node, a) | bits_of_eight(node, e - 8);
+        if bits == 0 {
+            return 0;
+        }
+        return 1;
+    }
+    if 4 < n {
+        let bits = bits_of_four(node, a) | bits_of_four(node, e - 4);
+        if bits == 0 {
+            return 0;
+        }
+        return 1;
+    }
+    bits_of_two(node, a) | bits_of_two(node, e - 2)
 }
 
-// 0 where a queue with no items is in shape: what is wrong is joined, so that a caller may join many queues before it looks.
-pub fn bits_of_empty(node: &[u32], k: Kind, q: usize) -> u32
-    requires { ⌜ Placed k (now node) q ⌝ }
-    requires { ⌜ items k (now node) q ≡ 0 ⌝ }
-    ensures { λ r. ⌜ eqb r 0 ≡ inShape k (now (node .entry)) q ⌝ }
-{
-    let first = node[q] as usize;
-    let base = q + k.head;
-    let over: u32 = if k.slots <= first { 1 } else { 0 };
-    let full: u32 = if are_slots_zero(node, base, base + k.slots) {
-        0
-    } else {
-        1
-    };
-    full | over
-}
-
-// Whether a queue with no items is in shape.
+// Whether a queue with no items is in shape. All its slots are joined and then looked at, so that the compiler may take many at a time; few
+// of them with no loop.
 pub fn is_right_empty(node: &[u32], k: Kind, q: usize) -> bool
     requires { ⌜ Placed k (now node) q ⌝ }
     requires { ⌜ items k (now node) q ≡ 0 ⌝ }
@@ -195,5 +210,14 @@ pub fn is_right_empty(node: &[u32], k: Kind, q: usize) -> bool
         return false;
     }
     let base = q + k.head;
-    are_some_zero(node, base, base + k.slots)
+    if k.slots < 9 {
+        return are_some_zero(node, base, base + k.slots);
+    }
+    let mut bits: u32 = 0;
+    let mut i: usize = 0;
+    while i < k.slots {
+        bits = bits | node[base + i];
+        i += 1;
+    }
+    bits == 0
 }

@@ -158,10 +158,6 @@ module _ (words : List ℕ) (before width m n b : ℕ) (marks : List ℕ) (low :
         high : (m : ℕ) (s : Settings) → m ≡ s .m → leb b m ≡ false → s .m < b
         high m s e t = ⊎-elim (λ k. absurd (false≢true (sym t ∙ le-leb b m (omega arith)))) (λ k. k) (le-or-lt b (s .m))
 
-    pub follow-above : (new : List ℕ) → m < b → Walked words before width m n b marks 0 new
-    unfolding stepsOn
-    follow-above new k = follow-stuck new (rw (lt-leb b m k))
-
     -- a block stepped on
     module _ (next : ℕ) (new : List ℕ) (w : (b ≤ m) × (getD marks b 0 ≡ 0) × (next ≡ getD words (before + b * width) 0) × (new ≡ set marks b 1)) where
       goes : (s : Settings) → Stretch s words → before ≡ blockAt s 1 - 1 → width ≡ s .b → next ≡ link s words b

@@ -13,11 +13,11 @@ use Rattle.judging.proofs.are_right_narrow.Statement.{statement}
 use Rattle.judging.proofs.are_right_narrow.Tie as tie
 
 abbrev Inv-loop : tie.InvT-loop
-Inv-loop queue kind q node s table seats marks₀ i p first count gap₀ j₀ marks gap j =
+Inv-loop queue kind q node s table seats marks₀ i p flag first count gap₀ j₀ marks gap j =
     (j ≤ count) × (length marks ≡ length marks₀) × Turn s node table i p (contents kind queue q) marks₀ marks j gap
 
 abbrev μ-loop : tie.MeasureT-loop
-μ-loop queue kind q node s table seats marks₀ i p first count gap₀ j₀ marks gap j = count - j
+μ-loop queue kind q node s table seats marks₀ i p flag first count gap₀ j₀ marks gap j = count - j
 
 mul-first : tie.Need-mul-first Inv-loop μ-loop
 mul-first c = search needs
@@ -59,7 +59,7 @@ same-length : tie.Need-same-length Inv-loop μ-loop
 same-length c = c .before .before .before .is-right-letter .kept .1 .1 .1 .1 .0 ∙ c .before .before .before .before .before .before .before .before .before .loop .inv .1
 
 returns : tie.Need-returns Inv-loop μ-loop
-returns c = let y = c .before .before .before .before .before .before .before .before .before .before .before .before .before .before .before .before .before in let x = y .args in let t = c .before .before .before .before .before .before .before .before .before .loop in turn-bad (x .s) (x .node .now) (x .table .now) (x .i) (x .p) (contents (x .kind) (x .queue .now) (x .q)) (x .marks .now) (t .marks) (t .j) (t .gap) (t .inv .2) (omega (arith, c .before .before .before .before .before .before .before .before .loop-test .taken, length-contents (x .kind) (x .queue .now) (x .q) (y .pre .0))) _ (ap (λ (a : ℕ). getD (x .queue .now) a 0) (c .before .before .before .before .before .before .before .slot-at .ensures .is) ∙ contents-item (x .kind) (x .queue .now) (x .q) (y .pre .0) (t .j) (omega (arith, c .before .before .before .before .before .before .before .before .loop-test .taken, y .pre .0 .count))) _ _ (c .before .before .before .is-right-letter .ensures) (not-true _ (c .if2 .taken))
+returns c = let y = c .before .before .before .before .before .before .before .before .before .before .before .before .before .before .before .before .before in let x = y .args in let t = c .before .before .before .before .before .before .before .before .before .loop in turn-bad (x .s) (x .node .now) (x .table .now) (x .i) (x .p) (contents (x .kind) (x .queue .now) (x .q)) (x .marks .now) (t .marks) (t .j) (t .gap) (t .inv .2) (omega (arith, c .before .before .before .before .before .before .before .before .loop-test .taken, length-contents (x .kind) (x .queue .now) (x .q) (y .pre .0))) _ (ap (λ (a : ℕ). getD (x .queue .now) a 0) (c .before .before .before .before .before .before .before .slot-at .ensures .is) ∙ contents-item (x .kind) (x .queue .now) (x .q) (y .pre .0) (t .j) (omega (arith, c .before .before .before .before .before .before .before .before .loop-test .taken, y .pre .0 .count))) _ _ (c .before .before .before .is-right-letter .ensures) (not-true _ (c .if2 .taken)) (x .flag)
 
 add-j : tie.Need-add-j Inv-loop μ-loop
 add-j c = search needs
@@ -74,7 +74,7 @@ same-length-2 : tie.Need-same-length-2 Inv-loop μ-loop
 same-length-2 c = search needs
 
 returns-2 : tie.Need-returns-2 Inv-loop μ-loop
-returns-2 c = let y = c .before .before .before .before .before .before .before .before .before in let x = y .args in let t = c .before .loop in let n = length-contents (x .kind) (x .queue .now) (x .q) (y .pre .0) in turn-end (x .s) (x .node .now) (x .table .now) (x .i) (x .p) (contents (x .kind) (x .queue .now) (x .q)) (x .marks .now) (t .marks) (t .j) (t .gap) (t .inv .2) (omega arith)
+returns-2 c = let y = c .before .before .before .before .before .before .before .before .before in let x = y .args in let t = c .before .loop in let n = length-contents (x .kind) (x .queue .now) (x .q) (y .pre .0) in turn-end (x .s) (x .node .now) (x .table .now) (x .i) (x .p) (contents (x .kind) (x .queue .now) (x .q)) (x .marks .now) (t .marks) (t .j) (t .gap) (t .inv .2) (omega arith) (x .flag)
 
 pub are-right-narrow-spec : {M : Type 1} → statement M
 are-right-narrow-spec =

@@ -1,52 +1,55 @@
 -- `shapes::are_many_zero` meets its contract. Assumes nothing.
-use mathlib.Core.Path.{_≡_}
-use Prim.Native.Nat.{_+_, _-_, _≤_}
 use native.Mathlib.Omega.{arith}
 use borrow.Author.Needs.{needs}
-use lib.Dec.{eqb}
-use lib.ListN.{getD}
-use Rattle.words.specs.Words.{every}
-use Rattle.shapes.proofs.Clear.{zero-none, zero-more, zero-all-told}
+use Rattle.shapes.proofs.Clear.{few-ends}
 use Rattle.shapes.proofs.are_many_zero.Statement.{statement}
 use Rattle.shapes.proofs.are_many_zero.Tie as tie
 
-abbrev Inv-loop : tie.InvT-loop
-Inv-loop node a e bits₀ i₀ bits i = (a ≤ i) × (i ≤ e) × (eqb bits 0 ≡ every (i - a) (λ j. eqb (getD node (a + j) 0) 0))
+sub-n : tie.Need-sub-n
+sub-n c = search needs
 
-abbrev μ-loop : tie.MeasureT-loop
-μ-loop node a e bits₀ i₀ bits i = e - i
+bits-of-many-requires : tie.Need-bits-of-many-requires
+bits-of-many-requires c κs = search needs
 
-loop-holds : tie.Need-loop-holds Inv-loop μ-loop
-loop-holds c = let x = c .args in (omega arith, omega arith, zero-none (x .node .now) (x .a) (x .e))
+returns : tie.Need-returns
+returns c = search needs
 
-mul-bits : tie.Need-mul-bits Inv-loop μ-loop
-mul-bits c = search needs
+bits-of-sixteen-requires : tie.Need-bits-of-sixteen-requires
+bits-of-sixteen-requires c κs = search needs
 
-shared-slice-read-bits : tie.Need-shared-slice-read-bits Inv-loop μ-loop
-shared-slice-read-bits c = search needs
+sub-bits-of-sixteen : tie.Need-sub-bits-of-sixteen
+sub-bits-of-sixteen c = search needs
 
-add-i : tie.Need-add-i Inv-loop μ-loop
-add-i c = search needs
+bits-of-sixteen-requires-2 : tie.Need-bits-of-sixteen-requires-2
+bits-of-sixteen-requires-2 c κs = search needs
 
-loop-less : tie.Need-loop-less Inv-loop μ-loop
-loop-less c = search needs
+returns-2 : tie.Need-returns-2
+returns-2 c = let y = c .before .before .before .before .before in let x = y .args in few-ends (x .node .now) (x .a) (x .e) 16 16 (c .before .bits-of-sixteen .result) (c .bits-of-sixteen2 .result) (omega (arith, y .pre)) (omega (arith, y .pre)) (omega (arith, y .pre)) (c .before .bits-of-sixteen .ensures) (c .bits-of-sixteen2 .ensures)
 
-loop-again : tie.Need-loop-again Inv-loop μ-loop
-loop-again c = let x = c .before .before .before .args in let t = c .before .before .loop in (omega arith, omega arith, zero-more (x .node .now) (x .a) (x .e) (t .i) (t .bits) (omega arith) (t .inv .2))
+bits-of-eight-requires : tie.Need-bits-of-eight-requires
+bits-of-eight-requires c κs = search needs
 
-returns : tie.Need-returns Inv-loop μ-loop
-returns c = let x = c .before .before .args in let t = c .before .loop in zero-all-told (x .node .now) (x .a) (x .e) (t .i) (t .bits) (omega arith) (t .inv .2)
+sub-bits-of-eight : tie.Need-sub-bits-of-eight
+sub-bits-of-eight c = search needs
+
+bits-of-eight-requires-2 : tie.Need-bits-of-eight-requires-2
+bits-of-eight-requires-2 c κs = search needs
+
+returns-3 : tie.Need-returns-3
+returns-3 c = let y = c .before .before .before .before .before in let x = y .args in few-ends (x .node .now) (x .a) (x .e) 8 8 (c .before .bits-of-eight .result) (c .bits-of-eight2 .result) (omega (arith, y .pre)) (omega (arith, y .pre)) (omega (arith, y .pre)) (c .before .bits-of-eight .ensures) (c .bits-of-eight2 .ensures)
 
 pub are-many-zero-spec : {M : Type 1} → statement M
 are-many-zero-spec =
     tie.close
     (tie.spec
-    Inv-loop
-    μ-loop
-    loop-holds
-    mul-bits
-    shared-slice-read-bits
-    add-i
-    loop-less
-    loop-again
-    returns)
+    sub-n
+    bits-of-many-requires
+    returns
+    bits-of-sixteen-requires
+    sub-bits-of-sixteen
+    bits-of-sixteen-requires-2
+    returns-2
+    bits-of-eight-requires
+    sub-bits-of-eight
+    bits-of-eight-requires-2
+    returns-3)

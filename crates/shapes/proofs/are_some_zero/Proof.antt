@@ -1,7 +1,7 @@
 -- `shapes::are_some_zero` meets its contract. Assumes nothing.
-use Rattle.shapes.proofs.Clear.{few-ends}
 use native.Mathlib.Omega.{arith}
 use borrow.Author.Needs.{needs}
+use Rattle.shapes.proofs.Clear.{few-ends}
 use Rattle.shapes.proofs.are_some_zero.Statement.{statement}
 use Rattle.shapes.proofs.are_some_zero.Tie as tie
 
@@ -18,7 +18,7 @@ bits-of-two-requires-2 : tie.Need-bits-of-two-requires-2
 bits-of-two-requires-2 c κs = search needs
 
 returns : tie.Need-returns
-returns c = let y = c .before .before .before .before in let x = y .args in few-ends (x .node .now) (x .a) (x .e) 2 (c .before .bits-of-two .result) (c .bits-of-two2 .result) (omega (arith, y .pre)) (omega (arith, y .pre)) (c .before .bits-of-two .ensures) (c .bits-of-two2 .ensures)
+returns c = let y = c .before .before .before .before in let x = y .args in few-ends (x .node .now) (x .a) (x .e) 2 2 (c .before .bits-of-two .result) (c .bits-of-two2 .result) (omega (arith, y .pre)) (omega (arith, y .pre)) (omega (arith, y .pre)) (c .before .bits-of-two .ensures) (c .bits-of-two2 .ensures)
 
 bits-of-four-requires : tie.Need-bits-of-four-requires
 bits-of-four-requires c κs = search needs
@@ -30,13 +30,7 @@ bits-of-four-requires-2 : tie.Need-bits-of-four-requires-2
 bits-of-four-requires-2 c κs = search needs
 
 returns-2 : tie.Need-returns-2
-returns-2 c = let y = c .before .before .before .before .before in let x = y .args in few-ends (x .node .now) (x .a) (x .e) 4 (c .before .bits-of-four .result) (c .bits-of-four2 .result) (omega (arith, y .pre)) (omega (arith, y .pre)) (c .before .bits-of-four .ensures) (c .bits-of-four2 .ensures)
-
-are-many-zero-requires : tie.Need-are-many-zero-requires
-are-many-zero-requires c κs = search needs
-
-returns-3 : tie.Need-returns-3
-returns-3 c = search needs
+returns-2 c = let y = c .before .before .before .before in let x = y .args in few-ends (x .node .now) (x .a) (x .e) 4 4 (c .before .bits-of-four .result) (c .bits-of-four2 .result) (omega (arith, y .pre)) (omega (arith, y .pre)) (omega (arith, y .pre)) (c .before .bits-of-four .ensures) (c .bits-of-four2 .ensures)
 
 pub are-some-zero-spec : {M : Type 1} → statement M
 are-some-zero-spec =
@@ -50,6 +44,4 @@ are-some-zero-spec =
     bits-of-four-requires
     sub-bits-of-four
     bits-of-four-requires-2
-    returns-2
-    are-many-zero-requires
-    returns-3)
+    returns-2)

@@ -1,48 +1,53 @@
 -- `shapes::bits_of_many` meets its contract. Assumes nothing.
 use mathlib.Core.Path.{_≡_}
 use mathlib.Core.Bool.{_&&_}
-use Prim.Native.Nat.{_-_, _≤_}
+use Prim.Native.Nat.{_+_, _-_, _≤_}
 use native.Mathlib.Omega.{arith}
 use borrow.Author.Needs.{needs}
 use lib.Dec.{eqb}
-use lib.Bits.{bitOr}
 use Rattle.shapes.specs.Shape.{zeroes}
-use Rattle.shapes.proofs.Clear.{few-ends, few-twice, many-none, many-more, many-all}
+use Rattle.shapes.proofs.Clear.{halves-none, halves-more, halves-all}
 use Rattle.shapes.proofs.bits_of_many.Statement.{statement}
 use Rattle.shapes.proofs.bits_of_many.Tie as tie
 
 abbrev Inv-loop : tie.InvT-loop
-Inv-loop node a e bits₀ i₀ bits i = (a ≤ i) × (i ≤ e) × (eqb bits 0 ≡ zeroes node a i && zeroes node (e - 32) e)
+Inv-loop node a e half second bits₀ i₀ bits i = (i ≤ half) × (eqb bits 0 ≡ zeroes node a (a + i) && zeroes node second (second + i))
 
 abbrev μ-loop : tie.MeasureT-loop
-μ-loop node a e bits₀ i₀ bits i = e - i
+μ-loop node a e half second bits₀ i₀ bits i = half - i
 
-sub-bits-of-sixteen : tie.Need-sub-bits-of-sixteen Inv-loop μ-loop
-sub-bits-of-sixteen c = search needs
+sub-half : tie.Need-sub-half Inv-loop μ-loop
+sub-half c = search needs
 
-bits-of-sixteen-requires : tie.Need-bits-of-sixteen-requires Inv-loop μ-loop
-bits-of-sixteen-requires c κs = search needs
+add-half : tie.Need-add-half Inv-loop μ-loop
+add-half c = search needs
 
-sub-bits-of-sixteen-2 : tie.Need-sub-bits-of-sixteen-2 Inv-loop μ-loop
-sub-bits-of-sixteen-2 c = search needs
+mul-half : tie.Need-mul-half Inv-loop μ-loop
+mul-half c = search needs
 
-bits-of-sixteen-requires-2 : tie.Need-bits-of-sixteen-requires-2 Inv-loop μ-loop
-bits-of-sixteen-requires-2 c κs = search needs
+sub-second : tie.Need-sub-second Inv-loop μ-loop
+sub-second c = search needs
 
 loop-holds : tie.Need-loop-holds Inv-loop μ-loop
-loop-holds c = let y = c .before .before .before in let x = y .args in (omega arith, omega arith, many-none (x .node .now) (x .a) (x .e) 32 (bitOr (c .before .bits-of-sixteen .result) (c .bits-of-sixteen2 .result)) (few-ends (x .node .now) (x .e - 32) (x .e) 16 (c .before .bits-of-sixteen .result) (c .bits-of-sixteen2 .result) (omega (arith, y .pre)) (omega (arith, y .pre)) (c .before .bits-of-sixteen .ensures) (c .bits-of-sixteen2 .ensures)))
+loop-holds c = let x = c .args in (omega arith, halves-none (x .node .now) (x .a) _)
 
-add-loop : tie.Need-add-loop Inv-loop μ-loop
-add-loop c = search needs
+add-bits : tie.Need-add-bits Inv-loop μ-loop
+add-bits c = search needs
 
-bits-of-sixteen-requires-3 : tie.Need-bits-of-sixteen-requires-3 Inv-loop μ-loop
-bits-of-sixteen-requires-3 c κs = search needs
+mul-bits : tie.Need-mul-bits Inv-loop μ-loop
+mul-bits c = search needs
 
-add-bits-of-sixteen : tie.Need-add-bits-of-sixteen Inv-loop μ-loop
-add-bits-of-sixteen c = search needs
+shared-slice-read-bits : tie.Need-shared-slice-read-bits Inv-loop μ-loop
+shared-slice-read-bits c = search needs
 
-bits-of-sixteen-requires-4 : tie.Need-bits-of-sixteen-requires-4 Inv-loop μ-loop
-bits-of-sixteen-requires-4 c κs = search needs
+add-bits-2 : tie.Need-add-bits-2 Inv-loop μ-loop
+add-bits-2 c = search needs
+
+mul-bits-2 : tie.Need-mul-bits-2 Inv-loop μ-loop
+mul-bits-2 c = search needs
+
+shared-slice-read-bits-2 : tie.Need-shared-slice-read-bits-2 Inv-loop μ-loop
+shared-slice-read-bits-2 c = search needs
 
 add-i : tie.Need-add-i Inv-loop μ-loop
 add-i c = search needs
@@ -51,10 +56,10 @@ loop-less : tie.Need-loop-less Inv-loop μ-loop
 loop-less c = search needs
 
 loop-again : tie.Need-loop-again Inv-loop μ-loop
-loop-again c = let y = c .before .before .before .before .before .before .before in let x = y .args in let t = c .before .before .before .loop in (omega arith, omega arith, many-more (x .node .now) (x .a) (x .e) 32 (t .i) 32 (t .bits) _ (t .inv .0) (t .inv .2) (few-twice (x .node .now) (t .i) 16 (c .before .bits-of-sixteen3 .result) (c .bits-of-sixteen4 .result) (c .before .bits-of-sixteen3 .ensures) (c .bits-of-sixteen4 .ensures)))
+loop-again c = let x = c .before .before .before .before .args in let t = c .before .before .before .loop in (omega arith, halves-more (x .node .now) (x .a) _ (t .i) (t .bits) (t .inv .1))
 
 returns : tie.Need-returns Inv-loop μ-loop
-returns c = let y = c .before .before .before .before .before in let x = y .args in let t = c .before .loop in many-all (x .node .now) (x .a) (x .e) 32 (t .i) (t .bits) (y .pre .0) (t .inv .0) (omega arith) (t .inv .1) (t .inv .2)
+returns c = let x = c .before .before .args in let t = c .before .loop in halves-all (x .node .now) (x .a) _ (t .i) (x .e) (t .bits) (omega arith) (omega arith) (omega arith) (t .inv .1)
 
 pub bits-of-many-spec : {M : Type 1} → statement M
 bits-of-many-spec =
@@ -62,15 +67,17 @@ bits-of-many-spec =
     (tie.spec
     Inv-loop
     μ-loop
-    sub-bits-of-sixteen
-    bits-of-sixteen-requires
-    sub-bits-of-sixteen-2
-    bits-of-sixteen-requires-2
+    sub-half
+    add-half
+    mul-half
+    sub-second
     loop-holds
-    add-loop
-    bits-of-sixteen-requires-3
-    add-bits-of-sixteen
-    bits-of-sixteen-requires-4
+    add-bits
+    mul-bits
+    shared-slice-read-bits
+    add-bits-2
+    mul-bits-2
+    shared-slice-read-bits-2
     add-i
     loop-less
     loop-again
