@@ -29,23 +29,6 @@ module _ (letters : ℕ → ℕ) where
   unfolding sum
   sum-suc n = refl
 
-  -- the row holds the numbers of the tasks below `task`
-  pub record Noted (row : List ℕ) (task : ℕ) : Type 0 where
-    pub long : length row ≡ taskIds
-    pub done : (t : ℕ) → t < task → getD row t 0 ≡ letters t
-
-  pub noted-none : (row : List ℕ) → length row ≡ taskIds → Noted row 0
-  noted-none row l = record { long = l; done = λ t h. absurd (omega arith) }
-
-  pub noted-more : (row : List ℕ) (task m : ℕ) → Noted row task → task < taskIds → m ≡ letters task → Noted (set row task m) (task + 1)
-  noted-more row task m a h e = record { long = length-set row task m ∙ a .long; done = done }
-    where
-      done : (t : ℕ) → t < task + 1 → getD (set row task m) t 0 ≡ letters t
-      done t g =
-          same? t task
-          (λ q z. rw q (getD-set-same row task m 0 (omega (arith, a .long)) ∙ e))
-          (λ q z. getD-set-other row task t m 0 q ∙ a .done t (lower t task g q))
-
   -- the tasks below `task` have their ranks, and n letters; in the row of the others is what was
   pub record Adding (row ranks : List ℕ) (n task : ℕ) : Type 0 where
     pub upto : task ≤ taskIds

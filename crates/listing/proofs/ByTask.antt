@@ -18,10 +18,10 @@ use Rattle.queues.specs.Queue.{sendKind, items, itemAt, run}
 use Rattle.sound.specs.Reading.{tableIn}
 use Rattle.listing.specs.declared.Shown.{Shown}
 use Rattle.listing.specs.List.{wordIn, shown, handedOver, fromTask, fromSend, waiting, fromNodes, ofTask, ofTasks}
-use Rattle.listing.specs.Asked.{Asked, keptOf, keptBelow, sentFrom, sentBelow}
+use Rattle.listing.specs.Asked.{Asked, keptOf, keptBelow, sentFrom, sentBelow, forTask}
 use Rattle.listing.proofs.Given.{named-id, asked-table, asked-named}
 use Rattle.listing.proofs.Letters.{waiting-run}
-use Rattle.listing.proofs.Placing.{forTask, for-append}
+use Rattle.listing.proofs.Placing.{for-append}
 use Rattle.listing.proofs.Spread.{Ids, sorted}
 
 pub ids-append : (xs ys : List Shown) → Ids xs → Ids ys → Ids (xs ++ ys)
@@ -40,7 +40,7 @@ module _ (s : Settings) (memory : List ℕ) where
   for-other t u i h [] = refl
   for-other t u i h (b ∷ bs) = rw (ne-eqb u t h) (for-other t u i h bs)
 
-  own-kept : (t : ℕ) → forTask t (keptOf s memory t) ≡ keptOf s memory t
+  pub own-kept : (t : ℕ) → forTask t (keptOf s memory t) ≡ keptOf s memory t
   unfolding keptOf
   own-kept t = split (isBound (tableIn memory) t) (λ e. rw e (for-own t (nodeOf (tableIn memory) t) _)) (λ e. rw e)
 

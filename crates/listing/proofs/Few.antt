@@ -13,7 +13,7 @@ use Rattle.layout.specs.Places.{nodes, taskQueues, sendAt, taskAt, node}
 use Rattle.layout.specs.Numbers.{destinationTaskWord}
 use Rattle.tasks.specs.Table.{nodeOf, queueOf, isBound}
 use Rattle.queues.specs.declared.Kind.{Kind}
-use Rattle.queues.specs.Queue.{sendKind, taskKind, run}
+use Rattle.queues.specs.Queue.{sendKind, taskKind, items, run}
 use Rattle.queues.proofs.Ring.{length-run}
 use Rattle.queues.specs.Items.{live}
 use Rattle.queues.proofs.Items.{length-live}
@@ -22,7 +22,7 @@ use Rattle.sound.specs.Reading.{tableIn, sendItems, taskItems}
 use Rattle.listing.specs.List.{wordIn, handedOver, fromTask, fromSend, waiting, fromNodes, ofTask, ofTasks}
 use Rattle.listing.specs.Asked.{Asked, Laid, placed, Low, keptOf, keptBelow, sentFrom, sentBelow}
 use Rattle.tasks.proofs.Laws.{seat-below}
-use Rattle.listing.proofs.Placing.{rows, so-low}
+use Rattle.listing.proofs.Placing.{rows, none-left, so-low}
 use Rattle.listing.proofs.Given.{first-unbound, asked-table, asked-send, asked-task}
 
 module _ (s : Settings) (memory : List ℕ) (task i : ℕ) where
@@ -142,3 +142,26 @@ module _ (s : Settings) (memory : List ℕ) (task : ℕ) where
       → n ≡ length (live (taskItems s memory i q)) → n ≡ length (keptOf s memory task)
   unfolding keptOf
   some-kept i q n e ei eq l = rw (e, ← ei, ← eq) (l ∙ sym (length-task s memory task i (live (taskItems s memory i q))))
+
+  pub unbound-none : isBound (tableIn memory) task ≡ false → keptOf s memory task ≡ []
+  unfolding keptOf
+  unbound-none e = rw e
+
+  module _ (a : Asked s memory) (i q n : ℕ) (h : i < nodes) (g : q < taskQueues) (l : n ≡ items (taskKind s) (node s memory i) (taskAt s q)) where
+    empty-none : i ≡ nodeOf (tableIn memory) task → q ≡ queueOf (tableIn memory) task → n ≡ 0 → keptOf s memory task ≡ []
+    unfolding keptOf
+    empty-none ei eq z =
+        let u = asked-task s memory a i h q g in
+        split (isBound (tableIn memory) task)
+        (λ e.
+        rw (e, ← ei, ← eq)
+        (none-left (fromTask s memory task i (live (taskItems s memory i q)))
+        (omega (arith, length-kept s memory task i (taskItems s memory i q), length-contents (taskKind s) (node s memory i) (taskAt s q) u, l, z))))
+        (λ e. rw e)
+
+    -- 1 where the queue has items, as a division tells
+    pub items-some : i ≡ nodeOf (tableIn memory) task → q ≡ queueOf (tableIn memory) task → ((n + 255) / 256 ≤ 1) × ((n + 255) / 256 ≡ 0 → keptOf s memory task ≡ [])
+    items-some ei eq =
+        let u = asked-task s memory a i h q g in
+        let f : n ≤ 255 = omega (arith, l, u .count, u .placed .small) in
+        (omega arith, λ z. empty-none ei eq (omega arith))

@@ -8,7 +8,7 @@ use native.Mathlib.Omega.{arith}
 use lib.Dec.{leb}
 use lib.ListN.{length, set, length-append}
 use lib.Seq.{sets, length-sets}
-use borrow.Author.Tests.{le-leb, lt-leb}
+use borrow.Author.Tests.{le-leb}
 use Rattle.words.proofs.Lists.{both}
 use Rattle.layout.specs.Numbers.{listWords}
 use Rattle.listing.specs.declared.Shown.{Shown}
@@ -40,15 +40,11 @@ unfolding laidOut
 length-laid [] = refl
 length-laid (x ∷ xs) = omega (arith, length-laid xs)
 
--- ---- one letter, where out has room for it and where not
+-- ---- one letter, where out has room for it
 module _ (x : Shown) (n : ℕ) (out : List ℕ) where
   pub letter-room : n * listWords + listWords ≤ length out → sets out (n * listWords) (laidOut (x ∷ [])) ≡ laidIn (x ∷ []) n out
   unfolding laidIn
   letter-room h = rw (le-leb (n * listWords + listWords) (length out) h)
-
-  pub letter-none : length out < n * listWords + listWords → out ≡ laidIn (x ∷ []) n out
-  unfolding laidIn
-  letter-none h = rw (lt-leb (n * listWords + listWords) (length out) h)
 
 -- ---- letters one behind the other
 abbrev first : Shown → ℕ → List ℕ → List ℕ

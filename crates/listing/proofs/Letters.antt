@@ -7,6 +7,7 @@ use native.Mathlib.Nat.{zero-add}
 use native.Mathlib.Numerals.{add-one}
 use native.Mathlib.Omega.{arith}
 use lib.ListN.{length, getD, set, drop, length-append}
+use lib.Seq.{set-getD}
 use borrow.Author.Tests.{eq-eqb, ne-eqb}
 use Rattle.words.proofs.Lists.{split}
 use Rattle.settings.specs.declared.Settings.{Settings}
@@ -21,12 +22,12 @@ use Rattle.queues.proofs.Ring.{run-more}
 use Rattle.sound.specs.Reading.{stageOf, otherOf, tableIn, taskItems}
 use Rattle.listing.specs.declared.Shown.{Shown}
 use Rattle.listing.specs.List.{wordIn, shown, handedOver, fromTask, waiting}
-use Rattle.listing.specs.Asked.{laidIn, Laid, Rows, placed, keptOf, keptBelow, sentFrom, sentBelow}
-use Rattle.listing.proofs.Laying.{laid-none, laid-join}
+use Rattle.listing.specs.Asked.{laidIn, Laid, Rows, placed, keptOf, keptIn, sentFrom, sentBelow}
+use Rattle.listing.proofs.Laying.{length-in, laid-none, laid-join}
 use Rattle.listing.proofs.Placing.{rows, none-left, placed-append, placed-task}
 
 -- the items up to place c, and that at place c
-run-one : (k : Kind) (w : List ℕ) (q c b : ℕ) → b ≡ itemAt k w q c → run k w q 0 (c + 1) ≡ run k w q 0 c ++ b ∷ []
+pub run-one : (k : Kind) (w : List ℕ) (q c b : ℕ) → b ≡ itemAt k w q c → run k w q 0 (c + 1) ≡ run k w q 0 c ++ b ∷ []
 run-one k w q c b e = run-more k w q 0 c ∙ ap (λ (z : ℕ). run k w q 0 c ++ z ∷ []) (ap (itemAt k w q) (zero-add c) ∙ sym e)
 
 module _ (s : Settings) (memory : List ℕ) (task i : ℕ) where
@@ -104,10 +105,6 @@ module _ (memory : List ℕ) (i j : ℕ) where
 
 -- ---- a task's letters, at its rank
 module _ (s : Settings) (memory : List ℕ) (task : ℕ) (ranks out : List ℕ) where
-  pub task-empty : (n : ℕ) → n ≡ length (keptOf s memory task) → n ≡ 0 → rows ranks out ≡ placed (keptOf s memory task) (rows ranks out)
-  unfolding placed
-  task-empty n e z = rw (none-left (keptOf s memory task) (sym e ∙ z))
-
   pub task-none : isBound (tableIn memory) task ≡ false → rows ranks out ≡ placed (keptOf s memory task) (rows ranks out)
   unfolding keptOf placed
   task-none e = rw e
@@ -120,11 +117,30 @@ module _ (s : Settings) (memory : List ℕ) (task : ℕ) (ranks out : List ℕ) 
       (ap₂ (λ (k : ℕ) (o : List ℕ). rows (set ranks task k) o) (l .count) (l .words)
       ∙ placed-task s memory task i (live (taskItems s memory i q)) ranks out h)
 
+-- ---- a task's letters, counted: placed where there is no room to lay them in
+pub laid-nowhere : (xs : List Shown) (n : ℕ) → laidIn xs n [] ≡ []
+laid-nowhere xs n = none-left (laidIn xs n []) (length-in xs n [])
+
+pub task-count : (s : Settings) (memory : List ℕ) (task : ℕ) (ranks : List ℕ) (n : ℕ) → task < length ranks → n ≡ length (keptOf s memory task)
+    → rows (set ranks task (getD ranks task 0 + n)) [] ≡ placed (keptOf s memory task) (rows ranks [])
+unfolding keptOf placed
+task-count s memory task ranks n h e =
+    let i : ℕ = nodeOf (tableIn memory) task in
+    let bs : List ℕ = live (taskItems s memory i (queueOf (tableIn memory) task)) in
+    split (isBound (tableIn memory) task)
+    (λ b.
+    rw (e, b)
+    (ap (rows (set ranks task (getD ranks task 0 + length (fromTask s memory task i bs)))) (sym (laid-nowhere (fromTask s memory task i bs) (getD ranks task 0)))
+    ∙ placed-task s memory task i bs ranks [] h))
+    (λ b.
+    let z : getD ranks task 0 + 0 ≡ getD ranks task 0 = omega arith in
+    rw (e, b) (ap (λ (l : List ℕ). rows l []) (ap (set ranks task) z ∙ set-getD ranks task 0)))
+
 -- ---- one task more, one item more, one queue more
 module _ (s : Settings) (memory : List ℕ) (start mid end : Rows) where
-  pub tasks-more : (n : ℕ) → mid ≡ placed (keptBelow s memory n) start → end ≡ placed (keptOf s memory n) mid → end ≡ placed (keptBelow s memory (n + 1)) start
-  unfolding keptBelow
-  tasks-more n a b = rw (add-one n) (b ∙ ap (placed (keptOf s memory n)) a ∙ sym (placed-append (keptBelow s memory n) (keptOf s memory n) start))
+  pub tasks-more : (row : List ℕ) (n : ℕ) → mid ≡ placed (keptIn s memory row n) start → end ≡ placed (keptOf s memory (getD row n 0)) mid → end ≡ placed (keptIn s memory row (n + 1)) start
+  unfolding keptIn
+  tasks-more row n a b = rw (add-one n) (b ∙ ap (placed (keptOf s memory (getD row n 0))) a ∙ sym (placed-append (keptIn s memory row n) (keptOf s memory (getD row n 0)) start))
 
   pub queues-more : (c : ℕ) → mid ≡ placed (sentBelow s memory c) start → end ≡ placed (sentFrom s memory (c % nodes) (waiting s memory (c / nodes) (c % nodes))) mid
       → end ≡ placed (sentBelow s memory (c + 1)) start
@@ -156,9 +172,9 @@ module _ (s : Settings) (memory : List ℕ) (j : ℕ) where
 
 -- ---- none yet
 module _ (s : Settings) (memory : List ℕ) (r : Rows) where
-  pub tasks-start : r ≡ placed (keptBelow s memory 0) r
-  unfolding keptBelow placed
-  tasks-start = refl
+  pub tasks-start : (row : List ℕ) → r ≡ placed (keptIn s memory row 0) r
+  unfolding keptIn placed
+  tasks-start row = refl
 
   pub queues-start : r ≡ placed (sentBelow s memory 0) r
   unfolding sentBelow placed

@@ -3,8 +3,11 @@ pub mod Placing
 pub mod Spread
 pub mod Letters
 pub mod Given
+pub mod Heads
 pub mod Few
 pub mod ByTask
+pub mod Noting
+pub mod Rooms
 pub mod Adding
 pub mod Outcomes
 pub mod Examples

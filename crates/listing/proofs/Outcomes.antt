@@ -19,13 +19,15 @@ use Rattle.listing.specs.declared.Shown.{Shown}
 use Rattle.listing.specs.declared.Listed.{Listed}
 use Rattle.listing.specs.declared.Listed.the-variants.{Done, OutTooShort}
 use Rattle.listing.specs.List.{ofTask, ofTasks, listed, laidOut}
-use Rattle.listing.specs.Asked.{Asked, Rows, placed, Low, keptOf, keptBelow, sentBelow, lettersOf, Ranked}
+use Rattle.listing.specs.Asked.{Asked, Rows, placed, Low, keptBelow, sentBelow, numbers, Ranked, forTask, Room}
 use Rattle.listing.specs.Outcome.{Outcome, list}
 use Rattle.listing.proofs.Given.{asked-long}
 use Rattle.listing.proofs.Few.{few-below, few-tasks}
-use Rattle.listing.proofs.Placing.{rows, none-left, forTask, placed-append, so-low, so-long, so-ranked, so-rank}
+use Rattle.listing.proofs.Placing.{rows, placed-append, so-low, so-ranked, so-rank}
+use Rattle.listing.proofs.Adding.{sum-suc, sum-most}
+use Rattle.listing.proofs.Rooms.{room-first, room-rest}
 use Rattle.listing.proofs.Spread.{sorted, spread, spread-none, all-stand}
-use Rattle.listing.proofs.ByTask.{every-letter, of-task, sorted-tasks, ids-all}
+use Rattle.listing.proofs.ByTask.{every-letter, by-task, sorted-tasks, ids-all}
 
 abbrev pub leaving : Listed → List ℕ → Outcome
 leaving a l = record { answer = a; out = l }
@@ -60,80 +62,104 @@ module _ (s : Settings) (memory : List ℕ) (e : sound memory ≡ true) (q : s �
   abbrev xs : List Shown
   xs = listed s memory
 
-  -- ---- the letters that wait are counted
-  module _ (row l : List ℕ) (counted : rows row l ≡ placed (sentBelow s memory (nodes * nodes)) (rows zeroes [])) where
-    pub row-long : length row ≡ taskIds
-    row-long = so-ranked (sentBelow s memory 36) zeroes [] row l counted ∙ zeroes-long
+  -- ---- the letters of the tasks' queues are counted, then those that wait
+  module _ (kept-row : List ℕ) (kept : rows kept-row [] ≡ placed (keptBelow s memory taskIds) (rows zeroes [])) where
+    pub kept-low : Low kept-row (nodes * nodes * 255)
+    kept-low =
+        so-low (keptBelow s memory taskIds) zeroes [] kept-row [] kept 74460 (nodes * nodes * 255) (zeroes-low 74460 (omega arith))
+        (omega (arith, few-below s memory a 256))
 
-    -- a list that is lent no place leaves out as it was
-    same : (out : List ℕ) → l ++ out ≡ out
-    same out = ap (λ (k : List ℕ). k ++ out) (none-left l (so-long (sentBelow s memory 36) zeroes [] row l counted))
+    module _ (row : List ℕ) (sent : rows row [] ≡ placed (sentBelow s memory (nodes * nodes)) (rows kept-row [])) where
+      counted : rows row [] ≡ placed (every-letter s memory) (rows zeroes [])
+      unfolding every-letter
+      counted =
+          sent ∙ ap (placed (sentBelow s memory 36)) kept
+          ∙ sym (placed-append (keptBelow s memory taskIds) (sentBelow s memory 36) (rows zeroes []))
 
-    of-all : (t : ℕ) → t < taskIds → lettersOf s memory row t ≡ length (ofTask s memory t)
-    of-all t h =
-        let c = so-rank (sentBelow s memory 36) zeroes [] row l counted t (rw zeroes-long h) in
-        rw (of-task s memory a t) (omega (arith, c, zero-rank t, length-append (keptOf s memory t) (forTask t (sentBelow s memory 36))))
+      pub row-long : length row ≡ taskIds
+      row-long = so-ranked (every-letter s memory) zeroes [] row [] counted ∙ zeroes-long
 
-    sum-all : (t : ℕ) → t ≤ taskIds → sum t (lettersOf s memory row) ≡ length (ofTasks s memory t)
-    unfolding sum ofTasks
-    sum-all zero h = refl
-    sum-all (suc t) h = ap₂ (λ (x y : ℕ). x + y) (sum-all t (omega arith)) (of-all t (omega arith)) ∙ sym (length-append (ofTasks s memory t) (ofTask s memory t))
+      of-all : (t : ℕ) → t < taskIds → numbers row t ≡ length (ofTask s memory t)
+      of-all t h =
+          let c = so-rank (every-letter s memory) zeroes [] row [] counted t (rw zeroes-long h) in
+          omega (arith, c, zero-rank t, ap length (by-task s memory a t h))
 
-    pub sum-few : sum taskIds (lettersOf s memory row) ≤ 456960
-    sum-few = omega (arith, sum-all taskIds (omega arith), few-tasks s memory a 256)
+      sum-all : (t : ℕ) → t ≤ taskIds → sum t (numbers row) ≡ length (ofTasks s memory t)
+      unfolding sum ofTasks
+      sum-all zero h = refl
+      sum-all (suc t) h = ap₂ (λ (x y : ℕ). x + y) (sum-all t (omega arith)) (of-all t (omega arith)) ∙ sym (length-append (ofTasks s memory t) (ofTask s memory t))
 
-    -- ---- and added up
-    module _ (ranks : List ℕ) (r : ℕ) (ranked : Ranked (lettersOf s memory row) ranks r) where
-      total : r ≡ length xs
-      total = ranked .all ∙ sum-all taskIds (omega arith)
+      pub sum-few : sum taskIds (numbers row) ≤ 456960
+      sum-few = omega (arith, sum-all taskIds (omega arith), few-tasks s memory a 256)
 
-      pub out-short : (out : List ℕ) → length (l ++ out) < r * listWords → leaving (OutTooShort r) (l ++ out) ≡ list memory out
-      unfolding list
-      out-short out g =
-          let d : length out < length xs * listWords = rw (same out, total) at g in
-          rw (e, ← q, lt-leb (length xs * listWords) (length out) d, same out, total)
+      -- ---- and added up
+      module _ (ranks : List ℕ) (r : ℕ) (ranked : Ranked (numbers row) ranks r) where
+        total : r ≡ length xs
+        total = ranked .all ∙ sum-all taskIds (omega arith)
 
-      each : (t : ℕ) → t < taskIds → getD ranks t 0 ≡ length (ofTasks s memory t)
-      each t h = ranked .each t h ∙ sum-all t (omega arith)
+        pub out-short : (out : List ℕ) → length out < r * listWords → leaving (OutTooShort r) out ≡ list memory out
+        unfolding list
+        out-short out g =
+            let d : length out < length xs * listWords = rw total at g in
+            rw (e, ← q, lt-leb (length xs * listWords) (length out) d, total)
 
-      pub ranks-low : (n : ℕ) → n ≤ 1000000 → Low ranks n
-      ranks-low n g = record { long = ranked .long; few = least }
-        where
-          least : (t : ℕ) → getD ranks t 0 + n ≤ 4294967295
-          least t =
-              ⊎-elim
-              (λ h. omega (arith, List·getD-eq-default ranks 0 {n = t} (omega (arith, ranked .long))))
-              (λ h. omega (arith, each t h, few-tasks s memory a t))
-              (le-or-lt 256 t)
+        each : (t : ℕ) → t < taskIds → getD ranks t 0 ≡ length (ofTasks s memory t)
+        each t h = ranked .each t h ∙ sum-all t (omega arith)
 
-      -- ---- and placed: those of the tasks' queues, then those that wait
-      module _ (out mid-ranks mid : List ℕ) (kept : rows mid-ranks mid ≡ placed (keptBelow s memory taskIds) (rows ranks (l ++ out))) where
-        pub mid-low : Low mid-ranks (nodes * nodes * 255)
-        mid-low =
-            so-low (keptBelow s memory taskIds) ranks (l ++ out) mid-ranks mid kept 74460 (nodes * nodes * 255) (ranks-low 74460 (omega arith))
-            (omega (arith, few-below s memory a 256))
+        pub ranks-low : (n : ℕ) → n ≤ 1000000 → Low ranks n
+        ranks-low n g = record { long = ranked .long; few = least }
+          where
+            least : (t : ℕ) → getD ranks t 0 + n ≤ 4294967295
+            least t =
+                ⊎-elim
+                (λ h. omega (arith, List·getD-eq-default ranks 0 {n = t} (omega (arith, ranked .long))))
+                (λ h. omega (arith, each t h, few-tasks s memory a t))
+                (le-or-lt 256 t)
 
-        module _ (last-ranks last : List ℕ) (sent : rows last-ranks last ≡ placed (sentBelow s memory (nodes * nodes)) (rows mid-ranks mid)) where
-          abbrev all : List Shown
-          all = every-letter s memory
+        -- out has room for all letters
+        room-all : (out : List ℕ) → r * listWords ≤ length out → Room (every-letter s memory) ranks out
+        room-all out g = record { each = each-room }
+          where
+            each-room : (t : ℕ) → t < taskIds → (getD ranks t 0 + length (forTask t (every-letter s memory))) * listWords ≤ length out
+            each-room t h =
+                omega
+                (arith, ranked .each t h, ranked .all, of-all t h, ap length (by-task s memory a t h), sum-suc (numbers row) t, sum-most (numbers row) (suc t) taskIds (omega arith), g)
 
-          both : rows last-ranks last ≡ placed all (rows ranks out)
+        pub kept-room : (out : List ℕ) → r * listWords ≤ length out → Room (keptBelow s memory taskIds) ranks out
+        unfolding every-letter
+        kept-room out g = room-first (keptBelow s memory taskIds) (sentBelow s memory 36) ranks out (room-all out g)
+
+        -- ---- and placed: those of the tasks' queues, then those that wait
+        module _ (out mid-ranks mid : List ℕ) (laid : rows mid-ranks mid ≡ placed (keptBelow s memory taskIds) (rows ranks out)) where
+          pub mid-low : Low mid-ranks (nodes * nodes * 255)
+          mid-low =
+              so-low (keptBelow s memory taskIds) ranks out mid-ranks mid laid 74460 (nodes * nodes * 255) (ranks-low 74460 (omega arith))
+              (omega (arith, few-below s memory a 256))
+
+          pub sent-room : r * listWords ≤ length out → Room (sentBelow s memory (nodes * nodes)) mid-ranks mid
           unfolding every-letter
-          both =
-              sent ∙ ap (placed (sentBelow s memory 36)) kept ∙ sym (placed-append (keptBelow s memory taskIds) (sentBelow s memory 36) (rows ranks (l ++ out)))
-              ∙ ap (λ (o : List ℕ). placed (keptBelow s memory taskIds ++ sentBelow s memory 36) (rows ranks o)) (same out)
+          sent-room g = room-rest (keptBelow s memory taskIds) (sentBelow s memory 36) ranks out (room-all out g) (ranked .long) mid-ranks mid laid
 
-          stand : length xs * listWords ≤ length out → last ≡ onto (laidOut xs) out
-          stand h =
-              let w = sorted-tasks s memory a taskIds (omega arith) in
-              let room : length (sorted all taskIds) * listWords ≤ length out = rw w h in
-              let start = spread-none all out room ranks (ranked .long) (λ t g. each t g ∙ ap length (sym (sorted-tasks s memory a t (omega arith)))) in
-              ap (λ (r : Rows). r .out) both
-              ∙ all-stand all out room (placed all (rows ranks out)) (spread all out room all [] (rows ranks out) refl (ids-all s memory a) start)
-              ∙ ap (λ (ys : List Shown). onto (laidOut ys) out) w
+          module _ (last-ranks last : List ℕ) (last-laid : rows last-ranks last ≡ placed (sentBelow s memory (nodes * nodes)) (rows mid-ranks mid)) where
+            abbrev all : List Shown
+            all = every-letter s memory
 
-          pub out-done : r * listWords ≤ length (l ++ out) → leaving (Done r) last ≡ list memory out
-          unfolding list
-          out-done g =
-              let d : length xs * listWords ≤ length out = rw (same out, total) at g in
-              rw (e, ← q, le-leb (length xs * listWords) (length out) d, stand d, total)
+            both : rows last-ranks last ≡ placed all (rows ranks out)
+            unfolding every-letter
+            both =
+                last-laid ∙ ap (placed (sentBelow s memory 36)) laid ∙ sym (placed-append (keptBelow s memory taskIds) (sentBelow s memory 36) (rows ranks out))
+
+            stand : length xs * listWords ≤ length out → last ≡ onto (laidOut xs) out
+            stand h =
+                let w = sorted-tasks s memory a taskIds (omega arith) in
+                let room : length (sorted all taskIds) * listWords ≤ length out = rw w h in
+                let start = spread-none all out room ranks (ranked .long) (λ t g. each t g ∙ ap length (sym (sorted-tasks s memory a t (omega arith)))) in
+                ap (λ (r : Rows). r .out) both
+                ∙ all-stand all out room (placed all (rows ranks out)) (spread all out room all [] (rows ranks out) refl (ids-all s memory a) start)
+                ∙ ap (λ (ys : List Shown). onto (laidOut ys) out) w
+
+            pub out-done : r * listWords ≤ length out → leaving (Done r) last ≡ list memory out
+            unfolding list
+            out-done g =
+                let d : length xs * listWords ≤ length out = rw total at g in
+                rw (e, ← q, le-leb (length xs * listWords) (length out) d, stand d, total)

@@ -12,7 +12,7 @@ use Rattle.words.proofs.Lists.{same?, le-or-lt}
 use Rattle.settings.specs.declared.Settings.{Settings}
 use Rattle.listing.specs.declared.Shown.{Shown}
 use Rattle.listing.specs.List.{shown, fromTask}
-use Rattle.listing.specs.Asked.{laidIn, Rows, placed, Low}
+use Rattle.listing.specs.Asked.{laidIn, Rows, placed, Low, forTask}
 use Rattle.listing.proofs.Laying.{length-in}
 
 abbrev pub rows : List ℕ → List ℕ → Rows
@@ -25,11 +25,6 @@ none-left (x ∷ l) e = absurd (omega arith)
 -- one letter placed
 abbrev pub place : Shown → Rows → Rows
 place x r = rows (set (r .ranks) (x .destination) (getD (r .ranks) (x .destination) 0 + 1)) (laidIn (x ∷ []) (getD (r .ranks) (x .destination) 0) (r .out))
-
--- of the letters those for task t, in their order
-abbrev pub forTask : ℕ → List Shown → List Shown
-forTask t [] = []
-forTask t (x ∷ xs) = cond (eqb (x .destination) t) (x ∷ forTask t xs) (forTask t xs)
 
 pub for-append : (t : ℕ) (xs ys : List Shown) → forTask t (xs ++ ys) ≡ forTask t xs ++ forTask t ys
 for-append t [] ys = refl

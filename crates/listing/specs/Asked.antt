@@ -3,7 +3,7 @@ use mathlib.Core.Path.{_≡_}
 use mathlib.Core.Bool.{true, cond}
 use mathlib.Core.List.{List, [], _∷_, _++_}
 use Prim.Native.Nat.{ℕ, zero, suc, _+_, _*_, _/_, _%_, _≤_, _<_}
-use lib.Dec.{leb}
+use lib.Dec.{eqb, leb}
 use lib.ListN.{length, getD, set}
 use lib.Seq.{sets}
 use Rattle.words.specs.Count.{sum}
@@ -65,6 +65,15 @@ pub record Low (ranks : List ℕ) (more : ℕ) : Type 0 where
   pub long : length ranks ≡ taskIds
   pub few : (t : ℕ) → Few (getD ranks t 0) more
 
+-- of the letters those for task t, in their order
+abbrev pub forTask : ℕ → List Shown → List Shown
+forTask t [] = []
+forTask t (x ∷ xs) = cond (eqb (x .destination) t) (x ∷ forTask t xs) (forTask t xs)
+
+-- out has room for the letters, from each task's rank on
+pub record Room (xs : List Shown) (ranks out : List ℕ) : Type 0 where
+  pub each : (t : ℕ) → t < taskIds → (getD ranks t 0 + length (forTask t xs)) * listWords ≤ length out
+
 module _ (s : Settings) (memory : List ℕ) where
   -- the letters of a task's queue, first to last
   unfoldable pub keptOf : ℕ → List Shown
@@ -88,13 +97,20 @@ module _ (s : Settings) (memory : List ℕ) where
   sentBelow zero = []
   sentBelow (suc c) = sentBelow c ++ sentFrom (c % nodes) (waiting s memory (c / nodes) (c % nodes))
 
-  -- the number of a task's letters, of which so many wait as the row says
-  abbrev pub lettersOf : List ℕ → ℕ → ℕ
-  lettersOf row task = length (keptOf task) + getD row task 0
+  -- the letters of the queues of the first n tasks that a row notes
+  unfoldable pub keptIn : List ℕ → ℕ → List Shown
+  keptIn row zero = []
+  keptIn row (suc n) = keptIn row n ++ keptOf (getD row n 0)
 
--- the row holds the number of letters of each task's queue
-pub record Kept (s : Settings) (memory row : List ℕ) : Type 0 where
-  pub each : (t : ℕ) → t < taskIds → getD row t 0 ≡ length (keptOf s memory t)
+-- the first n words of the row are tasks, and their queues have the letters of all tasks' queues
+pub record Noted (s : Settings) (memory row : List ℕ) (n : ℕ) : Type 0 where
+  pub few : n ≤ taskIds
+  pub each : (c : ℕ) → c < n → getD row c 0 < taskIds
+  pub all : keptIn s memory row n ≡ keptBelow s memory taskIds
+
+-- a row's number for each task
+abbrev pub numbers : List ℕ → ℕ → ℕ
+numbers row task = getD row task 0
 
 -- each task's rank is the number of letters of the tasks before it, and r that of all
 pub record Ranked (letters : ℕ → ℕ) (ranks : List ℕ) (r : ℕ) : Type 0 where

@@ -18,9 +18,9 @@ ghost use Rattle.layout.specs.Places.{
   nodeSize,
   node,
 };
-ghost use Rattle.layout.specs.Numbers.{headerWords};
+ghost use Rattle.layout.specs.Numbers.{headerWords, listWords};
 ghost use Rattle.layout.specs.Asked.{Sized};
-ghost use Rattle.queues.specs.Queue.{Queue, items, itemAt};
+ghost use Rattle.queues.specs.Queue.{Queue, start, items, itemAt};
 ghost use Rattle.queues.specs.Items.{live};
 ghost use Rattle.sound.specs.Reading.{taskItems};
 ghost use Rattle.sound.specs.Sound.{sound};
@@ -39,12 +39,13 @@ ghost use Rattle.listing.specs.Asked.{
   Laid,
   placed,
   Low,
+  Room,
   keptOf,
-  Kept,
+  Noted,
   keptBelow,
   sentFrom,
   sentBelow,
-  lettersOf,
+  numbers,
   Ranked,
 };
 ghost use Rattle.listing.specs.Outcome.{told, list};
@@ -66,7 +67,15 @@ pub enum Listed {
     OutTooShort(u32),
 }
 
-// Word k of the header of the letter that block b begins in node i.
+// The word at a place of a part of the memory.
+fn word_at(part: &[u32], at: usize) -> u32
+    requires { ⌜ at < length (now part) ⌝ }
+    ensures { λ r. ⌜ r ≡ getD (now (part .entry)) at 0 ⌝ }
+{
+    part[at]
+}
+
+// Word k of the header of the letter that block b begins in node i: mostly the first block carries it, which is found from where a block 0 would begin.
 fn word_in(memory: &[u32], s: Settings, i: u32, b: u32, k: usize) -> u32
     requires { ⌜ Begins s (now memory) i b ⌝ }
     requires { ⌜ k < headerWords ⌝ }
@@ -74,6 +83,11 @@ fn word_in(memory: &[u32], s: Settings, i: u32, b: u32, k: usize) -> u32
 {
     let a = layout::node_at(s, i as usize);
     let e = a + layout::node_size(s);
+    if k < s.b - 1 {
+        let zero = a + (layout::block_at(s, 1) - s.b);
+        let at = b as usize * s.b + k;
+        return word_at(&memory[zero..e], at);
+    }
     letters::word_of(&memory[a..e], s, b, k)
 }
 
@@ -122,6 +136,33 @@ fn item_in(memory: &[u32], s: Settings, i: u32, k: Kind, q: usize, c: usize) -> 
     queues::item(&memory[a..e], k, q, c)
 }
 
+// The slot that the queue at word q of node i starts with.
+fn start_in(memory: &[u32], s: Settings, i: u32, k: Kind, q: usize) -> usize
+    requires { ⌜ Sized s (now memory) ⌝ }
+    requires { ⌜ i < nodes ⌝ }
+    requires { ⌜ Queue k (node s (now memory) i) q ⌝ }
+    ensures { λ r. ⌜ r ≡ start k (node s (now (memory .entry)) i) q ⌝ }
+{
+    let a = layout::node_at(s, i as usize);
+    let e = a + layout::node_size(s);
+    word_at(&memory[a..e], q) as usize
+}
+
+// The item at place c of the queue at word q of node i, which starts with slot `first`.
+fn item_from(memory: &[u32], s: Settings, i: u32, k: Kind, q: usize, first: usize, c: usize) -> u32
+    requires { ⌜ Sized s (now memory) ⌝ }
+    requires { ⌜ i < nodes ⌝ }
+    requires { ⌜ Queue k (node s (now memory) i) q ⌝ }
+    requires { ⌜ first ≡ start k (node s (now memory) i) q ⌝ }
+    requires { ⌜ c < k .slots ⌝ }
+    ensures { λ r. ⌜ r ≡ itemAt k (node s (now (memory .entry)) i) q c ⌝ }
+{
+    let a = layout::node_at(s, i as usize);
+    let e = a + layout::node_size(s);
+    let at = queues::slot_at(k, q, first, c);
+    word_at(&memory[a..e], at)
+}
+
 // What the list shows of the letter that block b begins in node i, at a place, for a task.
 fn shown_at(memory: &[u32], s: Settings, task: u32, place: u32, i: u32, b: u32) -> Shown
     requires { ⌜ Begins s (now memory) i b ⌝ }
@@ -139,7 +180,7 @@ fn shown_at(memory: &[u32], s: Settings, task: u32, place: u32, i: u32, b: u32) 
     }
 }
 
-// The six words of the letter that block b begins in node i, behind the n letters that stand in out, where out has room for them.
+// The six words of the letter that block b begins in node i, behind the n letters that stand in out.
 fn list_letter(
     memory: &[u32],
     s: Settings,
@@ -152,18 +193,17 @@ fn list_letter(
 )
     requires { ⌜ Begins s (now memory) i b ⌝ }
     requires { ⌜ Few n 1 ⌝ }
+    requires { ⌜ n * listWords + listWords ≤ length (now out) ⌝ }
     ensures { λ _. ⌜ now (out .exit) ≡ laidIn (shown s (now (memory .entry)) task place i b ∷ []) n (now (out .entry)) ⌝ }
 {
     let at = n * 6;
-    if at + 6 <= out.len() {
-        let x = shown_at(memory, s, task, place, i, b);
-        out[at] = x.destination;
-        out[at + 1] = x.source;
-        out[at + 2] = x.place;
-        out[at + 3] = x.holder;
-        out[at + 4] = x.block;
-        out[at + 5] = x.body;
-    }
+    let x = shown_at(memory, s, task, place, i, b);
+    out[at] = x.destination;
+    out[at + 1] = x.source;
+    out[at + 2] = x.place;
+    out[at + 3] = x.holder;
+    out[at + 4] = x.block;
+    out[at + 5] = x.body;
 }
 
 // The letter that an item of node i's task queue begins, behind the n letters in out; a gap begins none.
@@ -178,6 +218,7 @@ fn list_kept(
 ) -> usize
     requires { ⌜ ((b ≡ 0 → ⊥) → Begins s (now memory) i b) ⌝ }
     requires { ⌜ Few n 1 ⌝ }
+    requires { ⌜ ((b ≡ 0 → ⊥) → n * listWords + listWords ≤ length (now out)) ⌝ }
     ensures { λ r. ⌜ Laid (fromTask s (now (memory .entry)) task i (live (b ∷ []))) n (now (out .entry)) r (now (out .exit)) ⌝ }
 {
     if b == 0 {
@@ -200,39 +241,31 @@ fn list_task_queue(
     requires { ⌜ Asked s (now memory) ⌝ }
     requires { ⌜ (i < nodes) × (q < taskQueues) ⌝ }
     requires { ⌜ Few n 255 ⌝ }
+    requires { ⌜ (n + length (live (taskItems s (now memory) i q))) * listWords ≤ length (now out) ⌝ }
     ensures { λ r. ⌜ Laid (fromTask s (now (memory .entry)) task i (live (taskItems s (now (memory .entry)) i q))) n (now (out .entry)) r (now (out .exit)) ⌝ }
 {
     let k = queues::task_kind(s);
     let at = layout::task_at(s, q as usize);
     let count = count_in(memory, s, i, k, at);
+    let first = start_in(memory, s, i, k, at);
     let mut r = n;
     let mut c = 0;
     while c < count {
-        let b = item_in(memory, s, i, k, at, c);
+        let b = item_from(memory, s, i, k, at, first, c);
         r = list_kept(memory, s, task, i, b, out, r);
         c += 1;
     }
     r
 }
 
-// The letters of a task's queue, of which there are so many, at the task's rank.
-fn list_task(
-    memory: &[u32],
-    s: Settings,
-    task: u32,
-    letters: u32,
-    ranks: &mut [u32; 256],
-    out: &mut [u32],
-)
+// The letters of a task's queue, at the task's rank.
+fn list_task(memory: &[u32], s: Settings, task: u32, ranks: &mut [u32; 256], out: &mut [u32])
     requires { ⌜ Asked s (now memory) ⌝ }
     requires { ⌜ task < taskIds ⌝ }
-    requires { ⌜ letters ≡ length (keptOf s (now memory) task) ⌝ }
     requires { ⌜ Low (now ranks) 255 ⌝ }
+    requires { ⌜ Room (keptOf s (now memory) task) (now ranks) (now out) ⌝ }
     ensures { λ _. ⌜ record { ranks = now (ranks .exit); out = now (out .exit) } ≡ placed (keptOf s (now (memory .entry)) task) (record { ranks = now (ranks .entry); out = now (out .entry) }) ⌝ }
 {
-    if letters == 0 {
-        return;
-    }
     let Seat::At(i, q) = tasks::seat_of(&memory[24..536], task) else {
         return;
     };
@@ -242,25 +275,26 @@ fn list_task(
     ranks[t] = r as u32;
 }
 
-// The letters of all tasks' queues, each task's at its rank.
+// The letters of the noted tasks' queues, each task's at its rank.
 fn list_tasks(
     memory: &[u32],
     s: Settings,
-    kept: &[u32; 256],
+    filled: &[u32; 256],
+    many: usize,
     ranks: &mut [u32; 256],
     out: &mut [u32],
 )
     requires { ⌜ Asked s (now memory) ⌝ }
-    requires { ⌜ Kept s (now memory) (now kept) ⌝ }
+    requires { ⌜ Noted s (now memory) (now filled) many ⌝ }
     requires { ⌜ Low (now ranks) (taskIds * 255) ⌝ }
+    requires { ⌜ Room (keptBelow s (now memory) taskIds) (now ranks) (now out) ⌝ }
     ensures { λ _. ⌜ record { ranks = now (ranks .exit); out = now (out .exit) } ≡ placed (keptBelow s (now (memory .entry)) taskIds) (record { ranks = now (ranks .entry); out = now (out .entry) }) ⌝ }
 {
-    let mut task = 0;
-    while task < 256 {
-        let t = task as usize;
-        let letters = kept[t];
-        list_task(memory, s, task, letters, ranks, out);
-        task += 1;
+    let mut c = 0;
+    while c < many {
+        let task = filled[c];
+        list_task(memory, s, task, ranks, out);
+        c += 1;
     }
 }
 
@@ -280,6 +314,41 @@ fn left_out(memory: &[u32], i: u32, j: u32) -> usize
     1
 }
 
+// Counts the letters that wait in node j's send queue for node i, each for its task.
+fn count_send_queue(memory: &[u32], s: Settings, i: u32, j: u32, ranks: &mut [u32; 256])
+    requires { ⌜ Asked s (now memory) ⌝ }
+    requires { ⌜ (i < nodes) × (j < nodes) ⌝ }
+    requires { ⌜ Low (now ranks) 255 ⌝ }
+    ensures { λ _. ⌜ record { ranks = now (ranks .exit); out = [] } ≡ placed (sentFrom s (now (memory .entry)) j (waiting s (now (memory .entry)) i j)) (record { ranks = now (ranks .entry); out = [] }) ⌝ }
+{
+    let k = queues::send_kind(s);
+    let at = layout::send_at(s, i as usize);
+    let count = count_in(memory, s, j, k, at);
+    let first = left_out(memory, i, j);
+    let mut c = first;
+    while c < count {
+        let b = item_in(memory, s, j, k, at, c);
+        let task = word_in(memory, s, j, b, 2);
+        let t = task as usize;
+        let n = ranks[t];
+        ranks[t] = n + 1;
+        c += 1;
+    }
+}
+
+// Counts the letters that wait in all send queues, each for its task: a list that is lent no room to lay them in.
+fn count_nodes(memory: &[u32], s: Settings, ranks: &mut [u32; 256])
+    requires { ⌜ Asked s (now memory) ⌝ }
+    requires { ⌜ Low (now ranks) (nodes * nodes * 255) ⌝ }
+    ensures { λ _. ⌜ record { ranks = now (ranks .exit); out = [] } ≡ placed (sentBelow s (now (memory .entry)) (nodes * nodes)) (record { ranks = now (ranks .entry); out = [] }) ⌝ }
+{
+    let mut c = 0;
+    while c < 36 {
+        count_send_queue(memory, s, c / 6, c % 6, ranks);
+        c += 1;
+    }
+}
+
 // The letters that wait in node j's send queue for node i, first to last, each at its task's rank.
 fn list_send_queue(
     memory: &[u32],
@@ -292,6 +361,7 @@ fn list_send_queue(
     requires { ⌜ Asked s (now memory) ⌝ }
     requires { ⌜ (i < nodes) × (j < nodes) ⌝ }
     requires { ⌜ Low (now ranks) 255 ⌝ }
+    requires { ⌜ Room (sentFrom s (now memory) j (waiting s (now memory) i j)) (now ranks) (now out) ⌝ }
     ensures { λ _. ⌜ record { ranks = now (ranks .exit); out = now (out .exit) } ≡ placed (sentFrom s (now (memory .entry)) j (waiting s (now (memory .entry)) i j)) (record { ranks = now (ranks .entry); out = now (out .entry) }) ⌝ }
 {
     let k = queues::send_kind(s);
@@ -314,6 +384,7 @@ fn list_send_queue(
 fn list_nodes(memory: &[u32], s: Settings, ranks: &mut [u32; 256], out: &mut [u32])
     requires { ⌜ Asked s (now memory) ⌝ }
     requires { ⌜ Low (now ranks) (nodes * nodes * 255) ⌝ }
+    requires { ⌜ Room (sentBelow s (now memory) (nodes * nodes)) (now ranks) (now out) ⌝ }
     ensures { λ _. ⌜ record { ranks = now (ranks .exit); out = now (out .exit) } ≡ placed (sentBelow s (now (memory .entry)) (nodes * nodes)) (record { ranks = now (ranks .entry); out = now (out .entry) }) ⌝ }
 {
     let mut c = 0;
@@ -358,24 +429,73 @@ fn kept_of(memory: &[u32], s: Settings, task: u32) -> u32
     kept_in(memory, s, i, q)
 }
 
-// Notes how many letters each task's queue has, and turns the number that wait for each task into its rank; answers how many letters there are.
-fn add_up(memory: &[u32], s: Settings, kept: &mut [u32; 256], ranks: &mut [u32; 256]) -> u32
+// 1 where a task's queue has items, 0 where it has none: by a division, so that nothing waits for a test.
+fn some_for(memory: &[u32], s: Settings, task: u32) -> usize
     requires { ⌜ Asked s (now memory) ⌝ }
-    requires { ⌜ (length (now kept) ≡ taskIds) × (length (now ranks) ≡ taskIds) ⌝ }
-    requires { ⌜ sum taskIds (lettersOf s (now memory) (now ranks)) ≤ 4294967295 ⌝ }
-    ensures { λ _. ⌜ Kept s (now (memory .entry)) (now (kept .exit)) ⌝ }
-    ensures { λ r. ⌜ Ranked (lettersOf s (now (memory .entry)) (now (ranks .entry))) (now (ranks .exit)) r ⌝ }
+    ensures { λ r. ⌜ (r ≤ 1) × (r ≡ 0 → keptOf s (now (memory .entry)) task ≡ []) ⌝ }
 {
-    let mut n = 0;
+    let Seat::At(i, q) = tasks::seat_of(&memory[24..536], task) else {
+        return 0;
+    };
+    let k = queues::task_kind(s);
+    let at = layout::task_at(s, q as usize);
+    let count = count_in(memory, s, i, k, at);
+    (count + 255) / 256
+}
+
+// Notes the tasks whose queues have items; answers how many they are.
+fn note_filled(memory: &[u32], s: Settings, filled: &mut [u32; 256]) -> usize
+    requires { ⌜ Asked s (now memory) ⌝ }
+    requires { ⌜ length (now filled) ≡ taskIds ⌝ }
+    ensures { λ r. ⌜ Noted s (now (memory .entry)) (now (filled .exit)) r ⌝ }
+{
+    let mut many = 0;
     let mut task = 0;
     while task < 256 {
-        let t = task as usize;
-        let letters = kept_of(memory, s, task);
-        let sent = ranks[t];
-        kept[t] = letters;
-        ranks[t] = n;
-        n += letters + sent;
+        filled[many] = task;
+        many += some_for(memory, s, task);
         task += 1;
+    }
+    many
+}
+
+// Counts the letters of the noted tasks' queues, each task's for it.
+fn count_tasks(
+    memory: &[u32],
+    s: Settings,
+    filled: &[u32; 256],
+    many: usize,
+    ranks: &mut [u32; 256],
+)
+    requires { ⌜ Asked s (now memory) ⌝ }
+    requires { ⌜ Noted s (now memory) (now filled) many ⌝ }
+    requires { ⌜ Low (now ranks) (taskIds * 255) ⌝ }
+    ensures { λ _. ⌜ record { ranks = now (ranks .exit); out = [] } ≡ placed (keptBelow s (now (memory .entry)) taskIds) (record { ranks = now (ranks .entry); out = [] }) ⌝ }
+{
+    let mut c = 0;
+    while c < many {
+        let task = filled[c];
+        let letters = kept_of(memory, s, task);
+        let t = task as usize;
+        let n = ranks[t];
+        ranks[t] = n + letters;
+        c += 1;
+    }
+}
+
+// Turns each task's number of letters into its rank; answers how many letters there are.
+fn add_up(ranks: &mut [u32; 256]) -> u32
+    requires { ⌜ length (now ranks) ≡ taskIds ⌝ }
+    requires { ⌜ sum taskIds (numbers (now ranks)) ≤ 4294967295 ⌝ }
+    ensures { λ r. ⌜ Ranked (numbers (now (ranks .entry))) (now (ranks .exit)) r ⌝ }
+{
+    let mut n = 0;
+    let mut t = 0;
+    while t < 256 {
+        let letters = ranks[t];
+        ranks[t] = n;
+        n += letters;
+        t += 1;
     }
     n
 }
@@ -386,14 +506,16 @@ fn list_sound(memory: &[u32], out: &mut [u32]) -> Listed
     ensures { λ r. ⌜ record { answer = r; out = now (out .exit) } ≡ list (now (memory .entry)) (now (out .entry)) ⌝ }
 {
     let s = sound::settings_in(memory);
-    let mut kept = [0u32; 256];
+    let mut filled = [0u32; 256];
     let mut ranks = [0u32; 256];
-    list_nodes(memory, s, &mut ranks, &mut out[0..0]);
-    let letters = add_up(memory, s, &mut kept, &mut ranks);
+    let many = note_filled(memory, s, &mut filled);
+    count_tasks(memory, s, &filled, many, &mut ranks);
+    count_nodes(memory, s, &mut ranks);
+    let letters = add_up(&mut ranks);
     if out.len() < letters as usize * 6 {
         return Listed::OutTooShort(letters);
     }
-    list_tasks(memory, s, &kept, &mut ranks, out);
+    list_tasks(memory, s, &filled, many, &mut ranks, out);
     list_nodes(memory, s, &mut ranks, out);
     Listed::Done(letters)
 }

@@ -11,7 +11,10 @@ returns c =
     kept-none (x .s) (x .memory .now) (x .task) (x .i) (x .b) (x .n) (x .out .now) (c .if1 .taken)
 
 list-letter-requires : tie.Need-list-letter-requires
-list-letter-requires c κs = (c .before .before .before .before .pre .0 (c .before .if1 .left), search needs)
+list-letter-requires c κs =
+    let x = c .before .before .before .before in
+    let h = c .before .if1 .left in
+    (x .pre .0 h, (x .pre .1 .0, x .pre .1 .1 h))
 
 returns-2 : tie.Need-returns-2
 returns-2 c =

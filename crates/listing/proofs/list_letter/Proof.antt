@@ -8,7 +8,7 @@ use lib.Seq.{sets}
 use Rattle.layout.specs.Numbers.{listWords}
 use Rattle.listing.specs.declared.Shown.{Shown}
 use Rattle.listing.specs.List.{laidOut}
-use Rattle.listing.proofs.Laying.{six, letter-room, letter-none}
+use Rattle.listing.proofs.Laying.{six, letter-room}
 use borrow.Author.Needs.{needs}
 use Rattle.listing.proofs.list_letter.Statement.{statement}
 use Rattle.listing.proofs.list_letter.Tie as tie
@@ -33,18 +33,15 @@ same-length c = simp length-set
 
 returns : tie.Need-returns
 returns c =
-    let x = c .before .before .before .before .args in
-    six (c .shown-at .result) (x .out .now) (x .n * listWords) ∙ ap (λ (y : Shown). sets (x .out .now) (x .n * listWords) (laidOut (y ∷ []))) (c .shown-at .ensures)
-    ∙ letter-room _ (x .n) (x .out .now) (c .before .if1 .taken)
-
-returns-2 : tie.Need-returns-2
-returns-2 c = let x = c .before .before .before .args in letter-none _ (x .n) (x .out .now) (c .if1 .left)
+    let x = c .before .before .before in
+    let a = x .args in
+    six (c .shown-at .result) (a .out .now) (a .n * listWords) ∙ ap (λ (y : Shown). sets (a .out .now) (a .n * listWords) (laidOut (y ∷ []))) (c .shown-at .ensures)
+    ∙ letter-room _ (a .n) (a .out .now) (x .pre .1 .1)
 
 pub list-letter-spec : {M : Type 1} → statement M
 list-letter-spec =
     tie.close
     (tie.spec
-    (λ c. search needs)
     (λ c. search needs)
     (λ c κs. search needs)
     (λ c. search needs)
@@ -65,5 +62,4 @@ list-letter-spec =
     (λ c. search needs)
     slice-write-out-6
     same-length
-    returns
-    returns-2)
+    returns)

@@ -5,6 +5,7 @@ use native.Mathlib.Nat.{mod-lt, div-lt-iff-lt-mul}
 use native.Mathlib.Omega.{arith}
 use Rattle.listing.specs.Asked.{placed, sentBelow}
 use Rattle.listing.proofs.Few.{few-sent}
+use Rattle.listing.proofs.Rooms.{room-queue}
 use Rattle.listing.proofs.Letters.{queues-start, queues-more}
 use Rattle.listing.proofs.Placing.{rows, so-low, so-long}
 use borrow.Author.Needs.{needs}
@@ -24,7 +25,7 @@ list-send-queue-requires : tie.Need-list-send-queue-requires Inv-loop μ-loop
 list-send-queue-requires c κs =
     let l = c .before .before .before .loop in
     let x = c .before .before .before .before .before .before in
-    (x .pre .0, ((div-lt-iff-lt-mul {k = 6} {x = l .c} {y = 6} (omega arith) .1 (omega arith), mod-lt (l .c) {m = 6} (omega arith)), so-low (sentBelow (x .args .s) (x .args .memory .now) (l .c)) (x .args .ranks .now) (x .args .out .now) (l .ranks) (l .out) (l .inv .1) _ _ (x .pre .1) (omega (arith, few-sent (x .args .s) (x .args .memory .now) (x .pre .0) (l .c) (l .inv .0)))))
+    (x .pre .0, ((div-lt-iff-lt-mul {k = 6} {x = l .c} {y = 6} (omega arith) .1 (omega arith), mod-lt (l .c) {m = 6} (omega arith)), (so-low (sentBelow (x .args .s) (x .args .memory .now) (l .c)) (x .args .ranks .now) (x .args .out .now) (l .ranks) (l .out) (l .inv .1) _ _ (x .pre .1 .0) (omega (arith, few-sent (x .args .s) (x .args .memory .now) (x .pre .0) (l .c) (l .inv .0))), room-queue (x .args .s) (x .args .memory .now) 36 (l .c) (omega arith) (x .args .ranks .now) (x .args .out .now) (l .ranks) (l .out) (l .inv .1) (x .pre .1 .0 .long) (x .pre .1 .1))))
 
 loop-again : tie.Need-loop-again Inv-loop μ-loop
 loop-again c =

@@ -1,13 +1,15 @@
 -- `listing::list_send_queue` meets its contract: after each turn the letters of the items from the first that is not left out up to place c are placed. Assumes nothing.
 use mathlib.Core.Path.{_≡_}
-use Prim.Native.Nat.{ℕ, _-_, _≤_, _<_}
+use Prim.Native.Nat.{ℕ, _+_, _-_, _*_, _≤_, _<_}
 use native.Mathlib.Omega.{arith}
-use lib.ListN.{getD}
+use lib.ListN.{length, getD}
 use Rattle.queues.specs.Queue.{sendKind, items, run}
 use Rattle.layout.specs.Places.{taskIds, sendAt, node}
+use Rattle.layout.specs.Numbers.{listWords}
 use Rattle.listing.specs.Asked.{Begins, Few, placed, sentFrom}
 use Rattle.listing.proofs.Given.{asked-sized, asked-long, Read, read-place, read-item, send-queue, read-send, sent-begins, sent-named}
 use Rattle.listing.proofs.Few.{so-sent}
+use Rattle.listing.proofs.Rooms.{room-letter}
 use Rattle.listing.proofs.Letters.{sent-start, sent-more, waiting-run}
 use Rattle.listing.proofs.Placing.{rows, so-long}
 use borrow.Author.Needs.{needs}
@@ -56,7 +58,24 @@ rank-of y =
     let x = y .before .before .before .before .before .before .before .before .before .before in
     let l = y .before .before .before .loop in
     let p = read-place (queue-of (y .before .before .before .before .before)) (l .c) (y .before .before .loop-test .taken) in
-    so-sent (x .args .s) (x .args .memory .now) (x .args .j) _ _ _ _ _ (x .args .ranks .now) (x .args .out .now) (l .ranks) (l .out) (l .inv .2) (omega arith) (x .pre .1 .1) (y .word-in .result)
+    so-sent (x .args .s) (x .args .memory .now) (x .args .j) _ _ _ _ _ (x .args .ranks .now) (x .args .out .now) (l .ranks) (l .out) (l .inv .2) (omega arith) (x .pre .1 .1 .0) (y .word-in .result)
+
+-- out has room for it
+room-of : (y : lts.After-word-in calls reads.Pre reads.Post Inv-loop μ-loop) → getD (y .before .before .before .loop .ranks) (y .word-in .result) 0 * listWords + listWords ≤ length (y .before .before .before .loop .out)
+room-of y =
+    let x = y .before .before .before .before .before .before .before .before .before .before in
+    let l = y .before .before .before .loop in
+    let q = queue-of (y .before .before .before .before .before) in
+    let f : ℕ = y .before .before .before .before .left-out .result in
+    let k = sendKind (x .args .s) in
+    let w = node (x .args .s) (x .args .memory .now) (x .args .j) in
+    let a = sendAt (x .args .s) (x .args .i) in
+    let h = y .before .before .loop-test .taken in
+    let m = l .inv .0 in
+    let e = waiting-run (x .args .s) (x .args .memory .now) (x .args .i) (x .args .j) f (y .before .before .before .before .left-out .ensures) in
+    room-letter (x .args .s) (x .args .memory .now) (x .args .j) k w a f (items k w a) (l .c) _ _ m (omega (arith, h, q .many))
+    (read-item q (l .c) _ (y .before .item-in .ensures)) (y .word-in .ensures) (task-of y) (x .args .ranks .now) (x .args .out .now) (l .ranks) (l .out) (l .inv .2) (x .pre .1 .1 .0 .long)
+    (rw e at (x .pre .1 .1 .1))
 
 send-at-requires : tie.Need-send-at-requires Inv-loop μ-loop
 send-at-requires c κs = let x = c .before .before .before in (asked-sized _ _ (x .pre .0) .range, x .pre .1 .0 .0)
@@ -105,7 +124,7 @@ cast-list-letter : tie.Need-cast-list-letter Inv-loop μ-loop
 cast-list-letter c = omega (arith, rank-of (c .before .before))
 
 list-letter-requires : tie.Need-list-letter-requires Inv-loop μ-loop
-list-letter-requires c κs = (begun (c .before .before .before), rank-of (c .before .before))
+list-letter-requires c κs = (begun (c .before .before .before), (rank-of (c .before .before), room-of (c .before .before)))
 
 add-c : tie.Need-add-c Inv-loop μ-loop
 add-c c = omega (arith, read-place (queue-of (c .before .before .before .before .before .before .before .before .before .before)) (c .before .before .before .before .before .before .before .before .loop .c) (c .before .before .before .before .before .before .before .loop-test .taken) .1)
