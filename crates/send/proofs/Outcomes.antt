@@ -83,9 +83,8 @@ module _ (s : Settings) (memory : List ℕ) (i : ℕ) (goal : Goal) where
   delivers-laid m n e d = rw e d
 
   -- a side row that has room for every letter has room for this one
-  pub side-room : (n : ℕ) (side : List ℕ) → length side ≡ 1024 → Delivers s memory i goal n → Delivers s memory i goal (length (take (n - 0) side)) × (length (take (n - 0) side) ≡ n)
+  pub side-room : (n : ℕ) (side : List ℕ) → n ≤ length side → Delivers s memory i goal n → Delivers s memory i goal (length (take (n - 0) side)) × (length (take (n - 0) side) ≡ n)
   side-room n side z d =
-      let m = d .posts .most in
       let e : length (take (n - 0) side) ≡ n = length-take-le (n - 0) side (omega arith) ∙ omega arith in
       (delivers-laid (length (take (n - 0) side)) n e d, e)
 
