@@ -174,26 +174,36 @@ module _ (words : List ℕ) (before width m n b : ℕ) (marks : List ℕ) (low :
       pub follow-last : next ≡ 0 → Walked words before width m n b marks n new
       follow-last z = follow-next n new (λ s st eb ew em. rw (told-ended n h) (visit-end s words (n - 1) next new z))
 
--- ---- one block of a walk, as its answer tells
-module _ (words : List ℕ) (before width m n b : ℕ) (old : List ℕ) (new : List ℕ) where
-  pub gone-over : (r : ℕ) → Walked words before width m n b old r new → Gone words before width m n b old (Over r) new
+-- ---- some blocks of a walk, as its answer tells
+module _ (d : ℕ) (words : List ℕ) (before width m n b : ℕ) (old : List ℕ) (new : List ℕ) where
+  pub gone-over : (r : ℕ) → Walked words before width m n b old r new → Gone d words before width m n b old (Over r) new
   unfolding Gone
   gone-over r v = v
 
-  pub gone-on : (next : ℕ) → 1 ≤ next → next ≤ m → 1 ≤ n → ((r : ℕ) (left : List ℕ) → Walked words before width m (n - 1) next new r left → Walked words before width m n b old r left)
-      → Gone words before width m n b old (Further next) new
+  pub gone-on : (next : ℕ) → 1 ≤ next → next ≤ m → d ≤ n → ((r : ℕ) (left : List ℕ) → Walked words before width m (n - d) next new r left → Walked words before width m n b old r left)
+      → Gone d words before width m n b old (Further next) new
   unfolding Gone
   gone-on next h k g f = ((h, k), g, f)
 
-  module _ (w : Went) (v : Gone words before width m n b old w new) where
+  module _ (w : Went) (v : Gone d words before width m n b old w new) where
     pub was-over : (r : ℕ) → w ≡ Over r → Walked words before width m n b old r new
     unfolding Gone
     was-over r e = rw e at v
 
     pub was-further : (next : ℕ) → w ≡ Further next
-        → ((1 ≤ next) × (next ≤ m)) × (1 ≤ n) × ((r : ℕ) (left : List ℕ) → Walked words before width m (n - 1) next new r left → Walked words before width m n b old r left)
+        → ((1 ≤ next) × (next ≤ m)) × (d ≤ n) × ((r : ℕ) (left : List ℕ) → Walked words before width m (n - d) next new r left → Walked words before width m n b old r left)
     unfolding Gone
     was-further next e = rw e at v
+
+-- one block, and one more
+pub gone-two : (words : List ℕ) (before width m n b : ℕ) (old : List ℕ) (next : ℕ) (mid : List ℕ) → 1 ≤ n
+    → ((r : ℕ) (left : List ℕ) → Walked words before width m (n - 1) next mid r left → Walked words before width m n b old r left)
+    → (w : Went) (new : List ℕ) → Gone 1 words before width m (n - 1) next mid w new → Gone 2 words before width m n b old w new
+unfolding Gone
+gone-two words before width m n b old next mid h f (Over r) new v = f r new v
+gone-two words before width m n b old next mid h f (Further x) new v =
+    let e : n - 2 ≡ n - 1 - 1 = omega arith in
+    (v .0, omega (arith, v .1), λ r left u. f r left (v .2 r left (rw e at u)))
 
 -- ---- a visit by a walk
 module _ (s : Settings) (l : List ℕ) (st : Stretch s l) (before : ℕ) (e : before ≡ blockAt s 1 - 1) where

@@ -72,8 +72,8 @@ abbrev pub Walked : List ℕ → ℕ → ℕ → ℕ → ℕ → ℕ → List �
 Walked words before width m n b old r new =
     (s : Settings) → Stretch s words → before ≡ blockAt s 1 - 1 → width ≡ s .b → m ≡ s .m → Visited s words n b old (toldBy r) new
 
--- one block of a walk: what it answers where it is over, else that the walk from the next block on is the rest of it
-unfoldable pub Gone : List ℕ → ℕ → ℕ → ℕ → ℕ → ℕ → List ℕ → Went → List ℕ → Type 0
-Gone words before width m n b old (On next) new =
-    ((1 ≤ next) × (next ≤ m)) × (1 ≤ n) × ((r : ℕ) (left : List ℕ) → Walked words before width m (n - 1) next new r left → Walked words before width m n b old r left)
-Gone words before width m n b old (Over r) new = Walked words before width m n b old r new
+-- d blocks of a walk: what it answers where it is over, else that the walk from the next block on is the rest of it
+unfoldable pub Gone : ℕ → List ℕ → ℕ → ℕ → ℕ → ℕ → ℕ → List ℕ → Went → List ℕ → Type 0
+Gone d words before width m n b old (On next) new =
+    ((1 ≤ next) × (next ≤ m)) × (d ≤ n) × ((r : ℕ) (left : List ℕ) → Walked words before width m (n - d) next new r left → Walked words before width m n b old r left)
+Gone d words before width m n b old (Over r) new = Walked words before width m n b old r new

@@ -80,7 +80,7 @@ pub fn go_on(
     requires { ⌜ Linked (now node) before width m ⌝ }
     requires { ⌜ m < length (now marks) ⌝ }
     requires { ⌜ (1 ≤ b) × (b ≤ m) ⌝ }
-    ensures { λ r. ⌜ Gone (now (node .entry)) before width m owed b (now (marks .entry)) r (now (marks .exit)) ⌝ }
+    ensures { λ r. ⌜ Gone 1 (now (node .entry)) before width m owed b (now (marks .entry)) r (now (marks .exit)) ⌝ }
 {
     if owed == 0 {
         return Went::Over(0);
@@ -94,8 +94,31 @@ pub fn go_on(
     Went::On(next)
 }
 
+// Two blocks of a walk.
+fn go_two(
+    node: &[u32],
+    before: usize,
+    width: usize,
+    m: usize,
+    marks: &mut [u8],
+    b: u32,
+    owed: usize,
+) -> Went
+    requires { ⌜ Linked (now node) before width m ⌝ }
+    requires { ⌜ m < length (now marks) ⌝ }
+    requires { ⌜ (1 ≤ b) × (b ≤ m) ⌝ }
+    ensures { λ r. ⌜ Gone 2 (now (node .entry)) before width m owed b (now (marks .entry)) r (now (marks .exit)) ⌝ }
+{
+    let first = go_on(node, before, width, m, marks, b, owed);
+    let next = match first {
+        Went::Over(r) => return Went::Over(r),
+        Went::On(next) => next,
+    };
+    go_on(node, before, width, m, marks, next, owed - 1)
+}
+
 // The walk from block b on, `owed` blocks at most, each link followed leaving one fewer owed: one more than how many of
-// them were not there, or 0 for a bad chain. It takes numbers and answers a number, and goes four blocks before it calls
+// them were not there, or 0 for a bad chain. It takes numbers and answers a number, and goes eight blocks before it calls
 // itself, so that a block costs little and the stack stays low.
 pub fn follow(
     node: &[u32],
@@ -111,27 +134,27 @@ pub fn follow(
     requires { ⌜ (1 ≤ b) × (b ≤ m) ⌝ }
     ensures { λ r. ⌜ Walked (now (node .entry)) before width m owed b (now (marks .entry)) r (now (marks .exit)) ⌝ }
 {
-    let first = go_on(node, before, width, m, marks, b, owed);
+    let first = go_two(node, before, width, m, marks, b, owed);
     let b1 = match first {
         Went::Over(r) => return r,
         Went::On(next) => next,
     };
-    let second = go_on(node, before, width, m, marks, b1, owed - 1);
+    let second = go_two(node, before, width, m, marks, b1, owed - 2);
     let b2 = match second {
         Went::Over(r) => return r,
         Went::On(next) => next,
     };
-    let third = go_on(node, before, width, m, marks, b2, owed - 2);
+    let third = go_two(node, before, width, m, marks, b2, owed - 4);
     let b3 = match third {
         Went::Over(r) => return r,
         Went::On(next) => next,
     };
-    let fourth = go_on(node, before, width, m, marks, b3, owed - 3);
+    let fourth = go_two(node, before, width, m, marks, b3, owed - 6);
     let b4 = match fourth {
         Went::Over(r) => return r,
         Went::On(next) => next,
     };
-    follow(node, before, width, m, marks, b4, owed - 4)
+    follow(node, before, width, m, marks, b4, owed - 8)
 }
 
 // Follows the chain from b on, `owed` blocks at most, and marks each; bad where a block is none or has a

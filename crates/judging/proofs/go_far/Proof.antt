@@ -28,16 +28,16 @@ same-length : tie.Need-same-length
 same-length c = search needs
 
 returns : tie.Need-returns
-returns c = let x = c .before .before .before .before .before .before .before .before .before .args in was-over (x .node .now) (x .before) (x .width) (x .m) (x .owed) (x .b) (x .marks .now) _ _ (c .before .before .before .before .before .go-on .ensures) _ (c .before .first .given .1)
+returns c = let x = c .before .before .before .before .before .before .before .before .before .args in was-over 1 (x .node .now) (x .before) (x .width) (x .m) (x .owed) (x .b) (x .marks .now) _ _ (c .before .before .before .before .before .go-on .ensures) _ (c .before .first .given .1)
 
 enum-known-first-2 : tie.Need-enum-known-first-2
 enum-known-first-2 c = search needs
 
 sub-go-on : tie.Need-sub-go-on
-sub-go-on c = let x = c .before .before .before .before .before .before .before .before .before .before .args in omega (arith, (was-further (x .node .now) (x .before) (x .width) (x .m) (x .owed) (x .b) (x .marks .now) _ _ (c .before .before .before .before .before .before .go-on .ensures) _ (c .before .before .first2 .given .1)) .1)
+sub-go-on c = let x = c .before .before .before .before .before .before .before .before .before .before .args in omega (arith, (was-further 1 (x .node .now) (x .before) (x .width) (x .m) (x .owed) (x .b) (x .marks .now) _ _ (c .before .before .before .before .before .before .go-on .ensures) _ (c .before .before .first2 .given .1)) .1)
 
 go-on-requires-2 : tie.Need-go-on-requires-2
-go-on-requires-2 c κs = let y = c .before .before .before .before .before .before .before .before .before .before in let x = y .args in (y .pre .0, (omega (arith, c .before .before .before .before .before .before .go-on .kept .1 .1 .1 .1 .0, y .pre .1 .0), (was-further (x .node .now) (x .before) (x .width) (x .m) (x .owed) (x .b) (x .marks .now) _ _ (c .before .before .before .before .before .before .go-on .ensures) _ (c .before .before .first2 .given .1)) .0))
+go-on-requires-2 c κs = let y = c .before .before .before .before .before .before .before .before .before .before in let x = y .args in (y .pre .0, (omega (arith, c .before .before .before .before .before .before .go-on .kept .1 .1 .1 .1 .0, y .pre .1 .0), (was-further 1 (x .node .now) (x .before) (x .width) (x .m) (x .owed) (x .b) (x .marks .now) _ _ (c .before .before .before .before .before .before .go-on .ensures) _ (c .before .before .first2 .given .1)) .0))
 
 enum-known-second : tie.Need-enum-known-second
 enum-known-second c = search needs
@@ -46,7 +46,7 @@ same-length-2 : tie.Need-same-length-2
 same-length-2 c = search needs
 
 returns-2 : tie.Need-returns-2
-returns-2 c = let x = c .before .before .before .before .before .before .before .before .before .before .before .before .before .before .before .before .args in (was-further (x .node .now) (x .before) (x .width) (x .m) (x .owed) (x .b) (x .marks .now) _ _ (c .before .before .before .before .before .before .before .before .before .before .before .before .go-on .ensures) _ (c .before .before .before .before .before .before .before .before .first2 .given .1)) .2 _ _ (was-over (x .node .now) (x .before) (x .width) (x .m) _ _ _ _ _ (c .before .before .before .before .before .go-on2 .ensures) _ (c .before .second .given .1))
+returns-2 c = let x = c .before .before .before .before .before .before .before .before .before .before .before .before .before .before .before .before .args in (was-further 1 (x .node .now) (x .before) (x .width) (x .m) (x .owed) (x .b) (x .marks .now) _ _ (c .before .before .before .before .before .before .before .before .before .before .before .before .go-on .ensures) _ (c .before .before .before .before .before .before .before .before .first2 .given .1)) .2 _ _ (was-over 1 (x .node .now) (x .before) (x .width) (x .m) _ _ _ _ _ (c .before .before .before .before .before .go-on2 .ensures) _ (c .before .second .given .1))
 
 enum-known-second-2 : tie.Need-enum-known-second-2
 enum-known-second-2 c = search needs
@@ -61,16 +61,16 @@ part-follow-end : tie.Need-part-follow-end
 part-follow-end c = search needs
 
 sub-follow-2 : tie.Need-sub-follow-2
-sub-follow-2 c = let x = c .before .before .before .before .before .before .before .before .before .before .before .before .before .before .before .before .before .before .args in omega (arith, (was-further (x .node .now) (x .before) (x .width) (x .m) (x .owed) (x .b) (x .marks .now) _ _ (c .before .before .before .before .before .before .before .before .before .before .before .before .before .before .go-on .ensures) _ (c .before .before .before .before .before .before .before .before .before .before .first2 .given .1)) .1, (was-further (x .node .now) (x .before) (x .width) (x .m) _ _ _ _ _ (c .before .before .before .before .before .before .before .go-on2 .ensures) _ (c .before .before .before .second2 .given .1)) .1)
+sub-follow-2 c = let x = c .before .before .before .before .before .before .before .before .before .before .before .before .before .before .before .before .before .before .args in omega (arith, (was-further 1 (x .node .now) (x .before) (x .width) (x .m) (x .owed) (x .b) (x .marks .now) _ _ (c .before .before .before .before .before .before .before .before .before .before .before .before .before .before .go-on .ensures) _ (c .before .before .before .before .before .before .before .before .before .before .first2 .given .1)) .1, (was-further 1 (x .node .now) (x .before) (x .width) (x .m) _ _ _ _ _ (c .before .before .before .before .before .before .before .go-on2 .ensures) _ (c .before .before .before .second2 .given .1)) .1)
 
 follow-requires : tie.Need-follow-requires
-follow-requires c κs = let y = c .before .before .before .before .before .before .before .before .before .before .before .before .before .before .before .before .before .before in let x = y .args in (rw (whole (x .node .now)) (y .pre .0), (omega (arith, c .before .before .before .before .before .before .before .before .before .before .before .before .before .before .go-on .kept .1 .1 .1 .1 .0, c .before .before .before .before .before .before .before .go-on2 .kept .1 .1 .1 .1 .0, y .pre .1 .0), (was-further (x .node .now) (x .before) (x .width) (x .m) _ _ _ _ _ (c .before .before .before .before .before .before .before .go-on2 .ensures) _ (c .before .before .before .second2 .given .1)) .0))
+follow-requires c κs = let y = c .before .before .before .before .before .before .before .before .before .before .before .before .before .before .before .before .before .before in let x = y .args in (rw (whole (x .node .now)) (y .pre .0), (omega (arith, c .before .before .before .before .before .before .before .before .before .before .before .before .before .before .go-on .kept .1 .1 .1 .1 .0, c .before .before .before .before .before .before .before .go-on2 .kept .1 .1 .1 .1 .0, y .pre .1 .0), (was-further 1 (x .node .now) (x .before) (x .width) (x .m) _ _ _ _ _ (c .before .before .before .before .before .before .before .go-on2 .ensures) _ (c .before .before .before .second2 .given .1)) .0))
 
 same-length-3 : tie.Need-same-length-3
 same-length-3 c = search needs
 
 returns-3 : tie.Need-returns-3
-returns-3 c = let x = c .before .before .before .before .before .before .before .before .before .before .before .before .before .before .before .before .before .before .before .before .before .args in let e : x .owed - 2 ≡ x .owed - 1 - 1 = down (x .owed) in (was-further (x .node .now) (x .before) (x .width) (x .m) (x .owed) (x .b) (x .marks .now) _ _ (c .before .before .before .before .before .before .before .before .before .before .before .before .before .before .before .before .before .go-on .ensures) _ (c .before .before .before .before .before .before .before .before .before .before .before .before .before .first2 .given .1)) .2 _ _ ((was-further (x .node .now) (x .before) (x .width) (x .m) _ _ _ _ _ (c .before .before .before .before .before .before .before .before .before .before .go-on2 .ensures) _ (c .before .before .before .before .before .before .second2 .given .1)) .2 _ _ (rw (e, whole (x .node .now)) at (c .before .before .follow .ensures)))
+returns-3 c = let x = c .before .before .before .before .before .before .before .before .before .before .before .before .before .before .before .before .before .before .before .before .before .args in let e : x .owed - 2 ≡ x .owed - 1 - 1 = down (x .owed) in (was-further 1 (x .node .now) (x .before) (x .width) (x .m) (x .owed) (x .b) (x .marks .now) _ _ (c .before .before .before .before .before .before .before .before .before .before .before .before .before .before .before .before .before .go-on .ensures) _ (c .before .before .before .before .before .before .before .before .before .before .before .before .before .first2 .given .1)) .2 _ _ ((was-further 1 (x .node .now) (x .before) (x .width) (x .m) _ _ _ _ _ (c .before .before .before .before .before .before .before .before .before .before .go-on2 .ensures) _ (c .before .before .before .before .before .before .second2 .given .1)) .2 _ _ (rw (e, whole (x .node .now)) at (c .before .before .follow .ensures)))
 
 pub go-far-spec : {M : Type 1} → statement M
 go-far-spec =
