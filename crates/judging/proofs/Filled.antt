@@ -21,7 +21,7 @@ use Rattle.sound.specs.Letters.{endsWell, wordsFrom, rightLength, rightHeader, 
 use Rattle.sound.proofs.Shapes.{shape-queue}
 use Rattle.sound.proofs.Tests.{no-first}
 use Rattle.shapes.specs.Shape.{itemsWithin, rightPost, rightSeat}
-use Rattle.shapes.proofs.Steps.{seat-unbound, seat-gap, seat-flag}
+use Rattle.shapes.proofs.Steps.{seat-gap, seat-flag}
 use Rattle.visits.specs.Letters.{lettersRight, Judged}
 use Rattle.visits.proofs.Read.{ends-within}
 use Rattle.judging.specs.Filled.{filledRight}
@@ -139,7 +139,3 @@ same-rule a b letters f due r new v =
     split letters
     (λ e. rw (f e) at v)
     (λ e. let z : r ≡ false = v .is ∙ rw e (and-false a) in record { is = z ∙ rw e (sym (and-false b)); marks = λ w. absurd (false≢true (sym z ∙ w)) })
-
--- a task queue with items, of no task
-pub seat-none : (k : Kind) (l : List ℕ) (q m task : ℕ) (letters : Bool) (due new : List ℕ) → 1 ≤ items k l q → task ≡ 0 → Judged (rightSeat k l q m task && letters) due false new
-seat-none k l q m task letters due new some z = record { is = no-first (rightSeat k l q m task) letters (sym (seat-unbound k l q m task some z)); marks = λ w. absurd (false≢true w) }

@@ -142,7 +142,8 @@ fn is_right_near(
 }
 
 // The letters of a queue's items, first to last, and whether the gap flag that the items ask for is `flag`. `post`: a send or acknowledge
-// queue, from node i to node k; else a task queue, of the task `owner`. Below 0 is above M: one test tells a letter.
+// queue, from node i to node k; else a task queue, of the task `owner`. 0 less 1 goes round to a number above M, so that one
+// test tells what begins a letter.
 fn are_right_items(
     queue: &[u32],
     kind: Kind,

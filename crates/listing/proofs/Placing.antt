@@ -1,11 +1,9 @@
 -- Letters placed by their tasks' ranks: how far each rank rises, and letters that are all for one task. Assumes nothing.
 use mathlib.Core.Path.{_≡_, refl, sym, ap, ap₂, subst, _∙_}
-use mathlib.Core.Bool.{cond}
 use mathlib.Core.List.{List, [], _∷_, _++_}
 use mathlib.Core.Logic.{⊎-elim}
 use Prim.Native.Nat.{ℕ, suc, _+_, _≤_, _<_}
 use native.Mathlib.Omega.{arith}
-use lib.Dec.{eqb}
 use lib.ListN.{length, getD, set, length-set}
 use lib.Seq.{set-out, set-set, set-getD, getD-set-same, getD-set-other}
 use Rattle.words.proofs.Lists.{same?, le-or-lt}

@@ -1,6 +1,6 @@
 -- Queues with no items, passed over: what is joined of them decides, and what that says of their places. Assumes nothing.
 use mathlib.Core.Path.{_≡_, refl, sym, ap, ap₂, _∙_}
-use mathlib.Core.Bool.{Bool, true, false, cond, _&&_, _||_, false≢true}
+use mathlib.Core.Bool.{Bool, true, false, _&&_, _||_, false≢true}
 use mathlib.Core.List.{List, []}
 use mathlib.Core.Logic.{⊎-elim}
 use Prim.Native.Nat.{ℕ, zero, suc, _+_, _-_, _*_, _/_, _≤_, _<_}
@@ -16,7 +16,7 @@ use Rattle.words.proofs.Lists.{split, same?, le-or-lt, and-false, every-at, eve
 use Rattle.settings.specs.declared.Settings.{Settings}
 use Rattle.layout.specs.Places.{gapWord}
 use Rattle.queues.specs.declared.Kind.{Kind}
-use Rattle.queues.specs.Queue.{start, items, contents, Placed}
+use Rattle.queues.specs.Queue.{start, items, Placed}
 use Rattle.queues.specs.Items.{live}
 use Rattle.tasks.specs.Seat.{seatAt}
 use Rattle.sound.specs.Queues.{inShape}
@@ -28,7 +28,7 @@ use Rattle.shapes.proofs.Steps.{post-empty, seat-flagged, seat-empty}
 use Rattle.places.specs.Given.{queueRight}
 use Rattle.places.specs.declared.Passed.{Passed}
 use Rattle.places.specs.declared.Passed.the-variants.{To, All, Wrong}
-use Rattle.places.specs.Runs.{Row, rightEmpty, passedRight, Passes, Stands, Run}
+use Rattle.places.specs.Runs.{Row, rightEmpty, passedRight, Passes, Stands}
 use Rattle.places.proofs.Begun.{none-live}
 use Rattle.places.proofs.Counts.{or-below, slot-shows}
 

@@ -1,5 +1,5 @@
 -- The queue at a place: what the tests of it and of its letters decide there. Assumes nothing.
-use mathlib.Core.Path.{_≡_, refl, sym, ap, _∙_}
+use mathlib.Core.Path.{_≡_, sym, ap, _∙_}
 use mathlib.Core.Bool.{Bool, true, false, _&&_, false≢true}
 use mathlib.Core.List.{List, []}
 use Prim.Native.Nat.{ℕ, _+_, _≤_, _<_}
@@ -36,12 +36,9 @@ use Rattle.places.specs.Runs.{Stands, Run}
 use Rattle.places.proofs.Begun.{queue-ack, ack-begun}
 use Rattle.places.proofs.Empties.{place-bare}
 
--- no items, or some
+-- no items
 pub none : (n : ℕ) (r : Bool) → r ≡ eqb n 0 → r ≡ true → n ≡ 0
 none n r e f = eqb-true n 0 (sym e ∙ f)
-
-pub some : (n : ℕ) (r : Bool) → r ≡ eqb n 0 → r ≡ false → 1 ≤ n
-some n r e f = same? n 0 (λ z q. absurd (false≢true (sym f ∙ e ∙ q))) (λ z q. omega arith)
 
 -- ---- a queue whose letters, where it is right, are those of the place
 module _ (s : Settings) (memory l t : List ℕ) (i p : ℕ) (k : Kind) (queue : List ℕ) (q : ℕ) (stands : queueRight s memory i p ≡ true → live (contents k queue q) ≡ begun s memory i p) where

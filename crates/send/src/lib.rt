@@ -66,8 +66,7 @@ fn send_through(
     deliver(memory, s, header.from as usize, goal, side)
 }
 
-// Makes the letter and posts it in the source's node. A short one is made in a short row: a long one takes as long to fill with zeroes as the
-// rest of a send takes.
+// Makes the letter and posts it in the source's node. A short one is made in a short row, which is sooner filled with zeroes.
 fn send_letter(memory: &mut [u32], s: Settings, header: Header, goal: Goal, body: &[u32]) -> Sent
     requires { ⌜ Delivers s (now memory) (header .from) goal (headerWords + length (now body)) ⌝ }
     ensures { λ r. ⌜ record { answer = r; memory = now (memory .exit) } ≡ postedIn s (now (memory .entry)) (header .from) goal (letterOf header (now (body .entry))) ⌝ }

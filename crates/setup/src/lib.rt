@@ -65,7 +65,7 @@ fn lay_nodes(memory: &mut [u32], s: Settings)
     }
 }
 
-// Every word of a memory fresh from set up: all are cleared at one go, which is faster than node by node.
+// Every word of a memory fresh from set up: all are cleared at one go, then those that are not 0 are laid.
 fn lay_memory(memory: &mut [u32], s: Settings, table: &[u32])
     requires { ⌜ Sized s (now memory) ⌝ }
     requires { ⌜ length (now table) ≡ tableWords ⌝ }

@@ -20,7 +20,8 @@ fn holds_none(table: &[u32], id: usize) -> bool
     table[id * 2 + 1] == 0
 }
 
-// Makes the row before any id, whose words say what an id that comes there has to show: 0 on a seat, 15872 at word 448, where an unbound id comes, and 4294967295, which none shows, at the others.
+// Makes the row before any id, whose words say what an id that comes there has to show: 0 on a seat, 15872 at word 448, where an unbound id
+// comes, and 4294967295, which none shows, at the others.
 fn bar_rest(seats: &mut [u32])
     requires { ⌜ now seats ≡ replicate 512 0 ⌝ }
     ensures { λ _. ⌜ now (seats .exit) ≡ freeRow ⌝ }
@@ -33,7 +34,8 @@ fn bar_rest(seats: &mut [u32])
     seats[448] = 15872;
 }
 
-// Puts an id at its word and joins what is wrong with it, with no branch: its word wants other than it shows, node * 64 + queue less that word, or its queue is over 63.
+// Puts an id at its word and joins what is wrong with it, with no branch: its word wants other than it shows, node * 64 + queue less that
+// word, or its queue is over 63.
 fn seat_one(table: &[u32], seats: &mut [u32], odd: usize, id: usize) -> usize
     requires { ⌜ length (now table) ≡ tableWords ⌝ }
     requires { ⌜ length (now seats) ≡ 512 ⌝ }
@@ -52,7 +54,8 @@ fn seat_one(table: &[u32], seats: &mut [u32], odd: usize, id: usize) -> usize
     odd | ((want ^ (both - seat)) | queue / 64)
 }
 
-// Whether each id below 256 is unbound or sits where no other does; puts each at its word, two a turn, and looks at what is wrong once, so that no turn waits for a test.
+// Whether each id below 256 is unbound or sits where no other does; puts each at its word, two a turn, and looks at what is wrong once, so
+// that no turn waits for a test.
 fn seat_each(table: &[u32], seats: &mut [u32]) -> bool
     requires { ⌜ length (now table) ≡ tableWords ⌝ }
     requires { ⌜ holdsNone (now table) 0 ≡ true ⌝ }
