@@ -1,6 +1,6 @@
--- The slots outside the items, as they stand in the stretch: two runs of words, or one where the items run round. Assumes nothing.
+-- Rows of words that are 0, as they are joined, and the slots outside the items as they stand in the stretch: two such rows, or one where the items run round. Assumes nothing.
 use mathlib.Core.Path.{_≡_, refl, sym, ap, ap₂, _∙_}
-use mathlib.Core.Bool.{Bool, true, false, _&&_, _||_}
+use mathlib.Core.Bool.{Bool, true, false, _&&_, _||_, and-comm}
 use mathlib.Core.List.{List}
 use Prim.Native.Nat.{ℕ, zero, suc, _+_, _-_, _%_, _≤_, _<_}
 use native.Mathlib.Nat.{mod-eq-of-lt, mod-eq-sub-mod}
@@ -15,8 +15,10 @@ use Rattle.words.proofs.Lists.{le-or-lt, and-true, and-join, same-test, every-a
 use Rattle.queues.specs.declared.Kind.{Kind}
 use Rattle.queues.specs.Queue.{start, items, itemAt}
 use Rattle.sound.specs.Queues.{inShape}
-use Rattle.sound.proofs.Tests.{and-yes, and-cross}
+use Rattle.sound.proofs.Tests.{and-assoc, and-yes, and-cross}
+use Rattle.shapes.specs.declared.Lanes.{Lanes}
 use Rattle.shapes.specs.Shape.{zeroes, clearOutside}
+use Rattle.shapes.specs.Lanes.{noBits}
 use Rattle.shapes.proofs.Steps.{shape-start}
 
 -- ---- words that are 0
@@ -55,11 +57,16 @@ module _ (l : List ℕ) where
       (λ y. zero-all l a e (λ p u v. let q : p ≡ a = omega arith in rw q (eqb-true (getD l a 0) 0 y)))
       (λ y. eq-eqb (getD l a 0) 0 (zero-at l a e y a (omega arith) (omega arith)))
 
+  -- a row of words and the next
+  beside : (a d e : ℕ) → a ≤ d → d ≤ e → zeroes l a d && zeroes l d e ≡ zeroes l a e
+  beside a d e x y = sym (over a d d e x (omega arith) y)
+
+  -- a word and the next
+  pair : (a b e : ℕ) → b ≡ a + 1 → e ≡ a + 2 → eqb (getD l a 0) 0 && eqb (getD l b 0) 0 ≡ zeroes l a e
+  pair a b e x y = ap₂ _&&_ (few-one a b x) (few-one b e (omega arith)) ∙ beside a b e (omega arith) (omega arith)
+
   pub few-two : (a : ℕ) → eqb (bitOr (getD l a 0) (getD l (a + 1) 0)) 0 ≡ zeroes l a (a + 2)
-  few-two a =
-      or-zero (getD l a 0) (getD l (a + 1) 0)
-      ∙ ap₂ _&&_ (few-one a (a + 1) refl) (few-one (a + 1) (a + 2) (omega arith))
-      ∙ sym (over a (a + 1) (a + 1) (a + 2) (omega arith) (omega arith) (omega arith))
+  few-two a = or-zero (getD l a 0) (getD l (a + 1) 0) ∙ pair a (a + 1) (a + 2) refl refl
 
   -- what was joined of the first m words and of the last n
   pub few-ends : (a e m n x y : ℕ) → a + m ≤ e → a + n ≤ e → e ≤ a + (m + n) → eqb x 0 ≡ zeroes l a (a + m) → eqb y 0 ≡ zeroes l (e - n) (e - n + n) → eqb (bitOr x y) 0 ≡ zeroes l a e
@@ -73,41 +80,73 @@ module _ (l : List ℕ) where
       let d : a + n ≡ a + (n + n) - n = omega arith in
       few-ends a (a + (n + n)) n n x y (omega arith) (omega arith) (omega arith) u (rw d at v)
 
-  -- ---- a turn of a loop that joins a word
-  next : (a i : ℕ) → zeroes l a (a + i) && eqb (getD l (a + i) 0) 0 ≡ zeroes l a (a + (i + 1))
-  next a i =
-      ap (λ (b : Bool). zeroes l a (a + i) && b) (few-one (a + i) (a + (i + 1)) (omega arith))
-      ∙ sym (over a (a + i) (a + i) (a + (i + 1)) (omega arith) (omega arith) (omega arith))
+-- ---- words joined four side by side
+-- four words of 0
+abbrev blank : Lanes
+blank = record { a = 0; b = 0; c = 0; d = 0 }
 
-  pub joined-none : (a : ℕ) → true ≡ zeroes l a (a + 0)
-  joined-none a = few-none a (a + 0) (omega arith)
+none-blank : noBits blank ≡ true
+unfolding noBits
+none-blank = refl
 
-  pub joined-more : (a i x : ℕ) → eqb x 0 ≡ zeroes l a (a + i) → eqb (bitOr x (getD l (a + i) 0)) 0 ≡ zeroes l a (a + (i + 1))
-  joined-more a i x u =
-      or-zero x (getD l (a + i) 0)
-      ∙ ap (λ (b : Bool). b && eqb (getD l (a + i) 0) 0) u
-      ∙ next a i
+-- two fours, joined word by word
+abbrev joined : Lanes → Lanes → Lanes
+joined x y = record { a = bitOr (x .a) (y .a); b = bitOr (x .b) (y .b); c = bitOr (x .c) (y .c); d = bitOr (x .d) (y .d) }
 
-  pub joined-all : (a i n x : ℕ) → i ≡ n → eqb x 0 ≡ zeroes l a (a + i) → eqb x 0 ≡ zeroes l a (a + n)
-  joined-all a i n x e u = u ∙ ap (λ (j : ℕ). zeroes l a (a + j)) e
+none-joined : (x y : Lanes) → noBits (joined x y) ≡ noBits x && noBits y
+unfolding noBits
+none-joined x y =
+    ap₂ _&&_ (ap₂ _&&_ (or-zero (x .a) (y .a)) (or-zero (x .b) (y .b)) ∙ and-cross (eqb (x .a) 0) (eqb (y .a) 0) (eqb (x .b) 0) (eqb (y .b) 0))
+    (ap₂ _&&_ (or-zero (x .c) (y .c)) (or-zero (x .d) (y .d)) ∙ and-cross (eqb (x .c) 0) (eqb (y .c) 0) (eqb (x .d) 0) (eqb (y .d) 0))
+    ∙ and-cross (eqb (x .a) 0 && eqb (x .b) 0) (eqb (y .a) 0 && eqb (y .b) 0) (eqb (x .c) 0 && eqb (x .d) 0) (eqb (y .c) 0 && eqb (y .d) 0)
 
-  -- ---- a turn of a loop that joins a word from a on and a word from b on
-  module _ (a b : ℕ) where
-    pub halves-none : true ≡ zeroes l a (a + 0) && zeroes l b (b + 0)
-    halves-none = ap₂ _&&_ (joined-none a) (joined-none b)
+-- the words of a four, joined
+one-joined : (x : Lanes) → eqb (bitOr (bitOr (x .a) (x .b)) (bitOr (x .c) (x .d))) 0 ≡ noBits x
+unfolding noBits
+one-joined x = or-zero (bitOr (x .a) (x .b)) (bitOr (x .c) (x .d)) ∙ ap₂ _&&_ (or-zero (x .a) (x .b)) (or-zero (x .c) (x .d))
 
-    pub halves-more : (i x : ℕ) → eqb x 0 ≡ zeroes l a (a + i) && zeroes l b (b + i) → eqb (bitOr x (bitOr (getD l (a + i) 0) (getD l (b + i) 0))) 0 ≡ zeroes l a (a + (i + 1)) && zeroes l b (b + (i + 1))
-    halves-more i x u =
-        let y : ℕ = getD l (a + i) 0 in
-        let z : ℕ = getD l (b + i) 0 in
-        or-zero x (bitOr y z)
-        ∙ ap₂ _&&_ u (or-zero y z)
-        ∙ and-cross (zeroes l a (a + i)) (zeroes l b (b + i)) (eqb y 0) (eqb z 0)
-        ∙ ap₂ _&&_ (next a i) (next b i)
+module _ (l : List ℕ) where
+  -- the four words from p on
+  abbrev standing : ℕ → Lanes
+  standing p = record { a = getD l p 0; b = getD l (p + 1) 0; c = getD l (p + 2) 0; d = getD l (p + 3) 0 }
 
-    -- the two reach over each other: one row
-    pub halves-all : (i e x : ℕ) → a ≤ b → b ≤ a + i → b + i ≡ e → eqb x 0 ≡ zeroes l a (a + i) && zeroes l b (b + i) → eqb x 0 ≡ zeroes l a e
-    halves-all i e x h k d u = u ∙ ap (λ (n : ℕ). zeroes l a (a + i) && zeroes l b n) d ∙ sym (over a b (a + i) e h k (omega arith))
+  none-standing : (p : ℕ) → noBits (standing p) ≡ zeroes l p (p + 4)
+  unfolding noBits
+  none-standing p =
+      ap₂ _&&_ (pair l p (p + 1) (p + 2) refl refl) (pair l (p + 2) (p + 3) (p + 4) (omega arith) (omega arith))
+      ∙ beside l p (p + 2) (p + 4) (omega arith) (omega arith)
+
+  pub lanes-four : (p : ℕ) (x : Lanes) → noBits (joined x (standing p)) ≡ noBits x && zeroes l p (p + 4)
+  lanes-four p x = none-joined x (standing p) ∙ ap (λ (b : Bool). noBits x && b) (none-standing p)
+
+  -- four words to one four and the next four to the other
+  lanes-eight : (x y v w : Lanes) (p d e : ℕ) → d ≡ p + 4 → e ≡ d + 4 → noBits v ≡ noBits x && zeroes l p (p + 4) → noBits w ≡ noBits y && zeroes l d (d + 4) → noBits v && noBits w ≡ (noBits x && noBits y) && zeroes l p e
+  lanes-eight x y v w p d e g h s t =
+      ap₂ _&&_ s t
+      ∙ and-cross (noBits x) (zeroes l p (p + 4)) (noBits y) (zeroes l d (d + 4))
+      ∙ ap (λ (b : Bool). (noBits x && noBits y) && b) (rw (h, g) (beside l p (p + 4) (p + 4 + 4) (omega arith) (omega arith)))
+
+  -- a loop that joins the last eight words before e first, and then those from a on
+  module _ (a e : ℕ) where
+    pub lanes-none : (v w : Lanes) → a + 8 ≤ e → noBits v ≡ noBits blank && zeroes l (e - 8) (e - 8 + 4) → noBits w ≡ noBits blank && zeroes l (e - 4) (e - 4 + 4) → noBits v && noBits w ≡ zeroes l (e - 8) e && zeroes l a a
+    lanes-none v w h s t =
+        lanes-eight blank blank v w (e - 8) (e - 4) e (omega arith) (omega arith) s t
+        ∙ rw (none-blank, ← few-none l a a refl) (sym (and-yes (zeroes l (e - 8) e)))
+
+    pub lanes-more : (x y v w : Lanes) (i : ℕ) → a ≤ i → noBits x && noBits y ≡ zeroes l (e - 8) e && zeroes l a i → noBits v ≡ noBits x && zeroes l i (i + 4) → noBits w ≡ noBits y && zeroes l (i + 4) (i + 4 + 4) → noBits v && noBits w ≡ zeroes l (e - 8) e && zeroes l a (i + 8)
+    lanes-more x y v w i h u s t =
+        lanes-eight x y v w i (i + 4) (i + 8) refl (omega arith) s t
+        ∙ ap (λ (b : Bool). b && zeroes l i (i + 8)) u
+        ∙ and-assoc (zeroes l (e - 8) e) (zeroes l a i) (zeroes l i (i + 8))
+        ∙ ap (λ (b : Bool). zeroes l (e - 8) e && b) (beside l a i (i + 8) h (omega arith))
+
+    pub lanes-all : (x y : Lanes) (i : ℕ) → a + 8 ≤ e → e - 8 ≤ i → i ≤ e → noBits x && noBits y ≡ zeroes l (e - 8) e && zeroes l a i → eqb (bitOr (bitOr (bitOr (x .a) (y .a)) (bitOr (x .b) (y .b))) (bitOr (bitOr (x .c) (y .c)) (bitOr (x .d) (y .d)))) 0 ≡ zeroes l a e
+    lanes-all x y i h j k u =
+        one-joined (joined x y)
+        ∙ none-joined x y
+        ∙ u
+        ∙ and-comm (zeroes l (e - 8) e) (zeroes l a i)
+        ∙ sym (over l a (e - 8) i e (omega arith) j k)
 
 -- ---- two rows of words, one in each turn of a loop: from a on, before e, and then from b on, before d
 module _ (l : List ℕ) (b d : ℕ) where

@@ -6,7 +6,9 @@ ghost use lib.Dec.{eqb};
 ghost use lib.ListN.{length};
 ghost use Rattle.queues.specs.Queue.{Placed, start, items};
 ghost use Rattle.sound.specs.Queues.{inShape};
+ghost use mathlib.Core.Bool.{_&&_};
 ghost use Rattle.shapes.specs.Shape.{zeroes, clearOutside};
+ghost use Rattle.shapes.specs.Lanes.{noBits};
 
 // Two words, joined.
 fn bits_of_two(node: &[u32], a: usize) -> u32
@@ -40,42 +42,51 @@ fn bits_of_sixteen(node: &[u32], a: usize) -> u32
     bits_of_eight(node, a) | bits_of_eight(node, a + 8)
 }
 
-// The words from a on, before e, joined: 32 words or more. The first and the last of them, as many of each and a multiple of eight, side by
-// side: so the compiler takes sixteen at a time with no rest.
+// Four words side by side, each of them words joined.
+pub struct Lanes {
+    pub a: u32,
+    pub b: u32,
+    pub c: u32,
+    pub d: u32,
+}
+
+// Four words of a stretch, each joined to a word of the four.
+fn join_four(node: &[u32], at: usize, x: Lanes) -> Lanes
+    requires { ⌜ at + 4 ≤ length (now node) ⌝ }
+    ensures { λ r. ⌜ noBits r ≡ (noBits x && zeroes (now (node .entry)) at (at + 4)) ⌝ }
+{
+    Lanes {
+        a: x.a | node[at],
+        b: x.b | node[at + 1],
+        c: x.c | node[at + 2],
+        d: x.d | node[at + 3],
+    }
+}
+
+// The words from a on, before e, joined: eight or more. The last eight first, and then eight a turn up to them or over some of them, so that
+// there is no rest; twice four side by side, which the compiler keeps in two vectors.
 fn bits_of_many(node: &[u32], a: usize, e: usize) -> u32
-    requires { ⌜ (a + 32 ≤ e) × (e ≤ length (now node)) ⌝ }
+    requires { ⌜ (a + 8 ≤ e) × (e ≤ length (now node)) ⌝ }
     ensures { λ r. ⌜ eqb r 0 ≡ zeroes (now (node .entry)) a e ⌝ }
 {
-    let half = (e - a + 15) / 16 * 8;
-    let second = e - half;
-    let mut bits: u32 = 0;
-    let mut i: usize = 0;
-    while i < half {
-        bits = bits | (node[a + i] | node[second + i]);
-        i += 1;
+    let none = Lanes {
+        a: 0,
+        b: 0,
+        c: 0,
+        d: 0,
+    };
+    let mut x = join_four(node, e - 8, none);
+    let mut y = join_four(node, e - 4, none);
+    let mut i = a;
+    while i < e - 8 {
+        x = join_four(node, i, x);
+        y = join_four(node, i + 4, y);
+        i += 8;
     }
-    bits
+    ((x.a | y.a) | (x.b | y.b)) | ((x.c | y.c) | (x.d | y.d))
 }
 
-// Whether the words from a on, before e, are 0: more than eight. All are joined and then looked at, so that the compiler may take
-// many at a time; up to 32 with no loop, the first and the last eight or sixteen of them.
-fn are_many_zero(node: &[u32], a: usize, e: usize) -> bool
-    requires { ⌜ (a + 9 ≤ e) × (e ≤ length (now node)) ⌝ }
-    ensures { λ r. ⌜ r ≡ zeroes (now (node .entry)) a e ⌝ }
-{
-    let n = e - a;
-    if 32 < n {
-        return bits_of_many(node, a, e) == 0;
-    }
-    if 16 < n {
-        let bits = bits_of_sixteen(node, a) | bits_of_sixteen(node, e - 16);
-        return bits == 0;
-    }
-    let bits = bits_of_eight(node, a) | bits_of_eight(node, e - 8);
-    bits == 0
-}
-
-// The same of two to eight words. The first and the last two or four of them are joined, with no loop.
+// Whether the words from a on, before e, are 0: two to eight of them. The first and the last two or four are joined, with no loop.
 fn are_some_zero(node: &[u32], a: usize, e: usize) -> bool
     requires { ⌜ (a + 2 ≤ e) × (e ≤ a + 8) × (e ≤ length (now node)) ⌝ }
     ensures { λ r. ⌜ r ≡ zeroes (now (node .entry)) a e ⌝ }
@@ -96,7 +107,7 @@ fn are_zero(node: &[u32], a: usize, e: usize) -> bool
 {
     let n = e - a;
     if 8 < n {
-        return are_many_zero(node, a, e);
+        return bits_of_many(node, a, e) == 0;
     }
     if n < 2 {
         if n == 0 {
@@ -198,8 +209,7 @@ pub fn bits_of_slots(node: &[u32], a: usize, e: usize) -> u32
     bits_of_two(node, a) | bits_of_two(node, e - 2)
 }
 
-// Whether a queue with no items is in shape. All its slots are joined and then looked at, so that the compiler may take many at a time; few
-// of them with no loop.
+// Whether a queue with no items is in shape. All its slots are joined and then looked at; few of them with no loop.
 pub fn is_right_empty(node: &[u32], k: Kind, q: usize) -> bool
     requires { ⌜ Placed k (now node) q ⌝ }
     requires { ⌜ items k (now node) q ≡ 0 ⌝ }
@@ -213,11 +223,5 @@ pub fn is_right_empty(node: &[u32], k: Kind, q: usize) -> bool
     if k.slots < 9 {
         return are_some_zero(node, base, base + k.slots);
     }
-    let mut bits: u32 = 0;
-    let mut i: usize = 0;
-    while i < k.slots {
-        bits = bits | node[base + i];
-        i += 1;
-    }
-    bits == 0
+    bits_of_many(node, base, base + k.slots) == 0
 }

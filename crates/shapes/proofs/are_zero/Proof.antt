@@ -8,8 +8,8 @@ use Rattle.shapes.proofs.are_zero.Tie as tie
 sub-n : tie.Need-sub-n
 sub-n c = search needs
 
-are-many-zero-requires : tie.Need-are-many-zero-requires
-are-many-zero-requires c κs = search needs
+bits-of-many-requires : tie.Need-bits-of-many-requires
+bits-of-many-requires c κs = search needs
 
 returns : tie.Need-returns
 returns c = search needs
@@ -37,7 +37,7 @@ are-zero-spec =
     tie.close
     (tie.spec
     sub-n
-    are-many-zero-requires
+    bits-of-many-requires
     returns
     returns-2
     mul-result

@@ -1,53 +1,47 @@
 -- `shapes::bits_of_many` meets its contract. Assumes nothing.
 use mathlib.Core.Path.{_≡_}
 use mathlib.Core.Bool.{_&&_}
-use Prim.Native.Nat.{_+_, _-_, _≤_}
+use Prim.Native.Nat.{_-_, _≤_}
 use native.Mathlib.Omega.{arith}
 use borrow.Author.Needs.{needs}
-use lib.Dec.{eqb}
 use Rattle.shapes.specs.Shape.{zeroes}
-use Rattle.shapes.proofs.Clear.{halves-none, halves-more, halves-all}
+use Rattle.shapes.specs.Lanes.{noBits}
+use Rattle.shapes.proofs.Clear.{lanes-none, lanes-more, lanes-all}
 use Rattle.shapes.proofs.bits_of_many.Statement.{statement}
 use Rattle.shapes.proofs.bits_of_many.Tie as tie
 
 abbrev Inv-loop : tie.InvT-loop
-Inv-loop node a e half second bits₀ i₀ bits i = (i ≤ half) × (eqb bits 0 ≡ zeroes node a (a + i) && zeroes node second (second + i))
+Inv-loop node a e x₀ y₀ i₀ x y i = (a ≤ i) × (i ≤ e) × (noBits x && noBits y ≡ zeroes node (e - 8) e && zeroes node a i)
 
 abbrev μ-loop : tie.MeasureT-loop
-μ-loop node a e half second bits₀ i₀ bits i = half - i
+μ-loop node a e x₀ y₀ i₀ x y i = e - i
 
-sub-half : tie.Need-sub-half Inv-loop μ-loop
-sub-half c = search needs
+sub-join-four : tie.Need-sub-join-four Inv-loop μ-loop
+sub-join-four c = search needs
 
-add-half : tie.Need-add-half Inv-loop μ-loop
-add-half c = search needs
+join-four-requires : tie.Need-join-four-requires Inv-loop μ-loop
+join-four-requires c κs = search needs
 
-mul-half : tie.Need-mul-half Inv-loop μ-loop
-mul-half c = search needs
+sub-join-four-2 : tie.Need-sub-join-four-2 Inv-loop μ-loop
+sub-join-four-2 c = search needs
 
-sub-second : tie.Need-sub-second Inv-loop μ-loop
-sub-second c = search needs
+join-four-requires-2 : tie.Need-join-four-requires-2 Inv-loop μ-loop
+join-four-requires-2 c κs = search needs
 
 loop-holds : tie.Need-loop-holds Inv-loop μ-loop
-loop-holds c = let x = c .args in (omega arith, halves-none (x .node .now) (x .a) _)
+loop-holds c = let x = c .before .before .before .args in (search needs, search needs, lanes-none (x .node .now) (x .a) (x .e) (c .before .join-four .result) (c .join-four2 .result) (omega arith) (c .before .join-four .ensures) (c .join-four2 .ensures))
 
-add-bits : tie.Need-add-bits Inv-loop μ-loop
-add-bits c = search needs
+sub-loop : tie.Need-sub-loop Inv-loop μ-loop
+sub-loop c = search needs
 
-mul-bits : tie.Need-mul-bits Inv-loop μ-loop
-mul-bits c = search needs
+join-four-requires-3 : tie.Need-join-four-requires-3 Inv-loop μ-loop
+join-four-requires-3 c κs = search needs
 
-shared-slice-read-bits : tie.Need-shared-slice-read-bits Inv-loop μ-loop
-shared-slice-read-bits c = search needs
+add-join-four : tie.Need-add-join-four Inv-loop μ-loop
+add-join-four c = search needs
 
-add-bits-2 : tie.Need-add-bits-2 Inv-loop μ-loop
-add-bits-2 c = search needs
-
-mul-bits-2 : tie.Need-mul-bits-2 Inv-loop μ-loop
-mul-bits-2 c = search needs
-
-shared-slice-read-bits-2 : tie.Need-shared-slice-read-bits-2 Inv-loop μ-loop
-shared-slice-read-bits-2 c = search needs
+join-four-requires-4 : tie.Need-join-four-requires-4 Inv-loop μ-loop
+join-four-requires-4 c κs = search needs
 
 add-i : tie.Need-add-i Inv-loop μ-loop
 add-i c = search needs
@@ -56,10 +50,10 @@ loop-less : tie.Need-loop-less Inv-loop μ-loop
 loop-less c = search needs
 
 loop-again : tie.Need-loop-again Inv-loop μ-loop
-loop-again c = let x = c .before .before .before .before .args in let t = c .before .before .before .loop in (omega arith, halves-more (x .node .now) (x .a) _ (t .i) (t .bits) (t .inv .1))
+loop-again c = let x = c .before .before .before .before .before .before .before .args in let t = c .before .before .before .loop in (search needs, search needs, lanes-more (x .node .now) (x .a) (x .e) (t .x) (t .y) (c .before .join-four3 .result) (c .join-four4 .result) (t .i) (t .inv .0) (t .inv .2) (c .before .join-four3 .ensures) (c .join-four4 .ensures))
 
 returns : tie.Need-returns Inv-loop μ-loop
-returns c = let x = c .before .before .args in let t = c .before .loop in halves-all (x .node .now) (x .a) _ (t .i) (x .e) (t .bits) (omega arith) (omega arith) (omega arith) (t .inv .1)
+returns c = let x = c .before .before .before .before .before .before .before .before .before .before .before .before .before .args in let t = c .before .before .before .before .before .before .before .before .before .loop in lanes-all (x .node .now) (x .a) (x .e) (t .x) (t .y) (t .i) (omega arith) (omega arith) (t .inv .1) (t .inv .2)
 
 pub bits-of-many-spec : {M : Type 1} → statement M
 bits-of-many-spec =
@@ -67,17 +61,15 @@ bits-of-many-spec =
     (tie.spec
     Inv-loop
     μ-loop
-    sub-half
-    add-half
-    mul-half
-    sub-second
+    sub-join-four
+    join-four-requires
+    sub-join-four-2
+    join-four-requires-2
     loop-holds
-    add-bits
-    mul-bits
-    shared-slice-read-bits
-    add-bits-2
-    mul-bits-2
-    shared-slice-read-bits-2
+    sub-loop
+    join-four-requires-3
+    add-join-four
+    join-four-requires-4
     add-i
     loop-less
     loop-again
