@@ -247,7 +247,8 @@ fn are_right_sends(
     )
 }
 
-// Acknowledge queue i on the six nodes and its letters, places 7 to 12; one that has items is a row by itself.
+// Acknowledge queue i on the six nodes and its letters, places 7 to 12; one that has items is a row by itself. The stretches are gone over to
+// the memory's end, a number that the compiler does not know: so it does not lay the loop out six times.
 fn are_right_acks(
     memory: &[u32],
     node: &[u32],
@@ -267,9 +268,9 @@ fn are_right_acks(
     let kind = queues::ack_kind(s);
     let size = layout::node_size(s);
     let q = layout::ack_at(s, i);
+    let mut a = layout::node_at(s, 0);
     let mut k: usize = 0;
-    while k < 6 {
-        let a = layout::node_at(s, k);
+    while a < memory.len() {
         let e = a + size;
         if shapes::is_empty(&memory[a..e], kind, q) {
             if !shapes::is_right_empty(&memory[a..e], kind, q) {
@@ -297,6 +298,7 @@ fn are_right_acks(
                 return false;
             }
         }
+        a = e;
         k += 1;
     }
     true

@@ -88,17 +88,21 @@ fn are_standing(memory: &[u32], s: Settings) -> bool
     true
 }
 
-// The third, the fifth and the sixth rule over the places of every node.
+// The third, the fifth and the sixth rule over the places of every node. The stretches are gone over to the memory's end, a number that the
+// compiler does not know: so it does not lay the loop out six times.
 fn are_right_nodes(memory: &[u32], s: Settings, seats: &[u32]) -> bool
     requires { ⌜ Looked s (now memory) ⌝ }
     requires { ⌜ Seats (tableIn (now memory)) (now seats) ⌝ }
     ensures { λ r. ⌜ r ≡ every nodes (nodeRight s (now (memory .entry))) ⌝ }
 {
+    let size = layout::node_size(s);
+    let mut a = layout::node_at(s, 0);
     let mut i: usize = 0;
-    while i < 6 {
+    while a < memory.len() {
         if !places::is_right_node(memory, s, seats, i) {
             return false;
         }
+        a += size;
         i += 1;
     }
     true
