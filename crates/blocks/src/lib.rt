@@ -50,13 +50,30 @@ pub fn last_of(node: &[u32], s: Settings, b: u32, owed: usize) -> u32
     }
 }
 
+// The same, its first two blocks with no call: most letters have no more. The stretch is lent to the call as a part of itself, so that only a
+// letter that goes so far makes it ready.
+fn end_of(node: &[u32], s: Settings, b: u32, owed: usize) -> u32
+    requires { ⌜ Walks s (now node) owed b ⌝ }
+    requires { ⌜ 1 ≤ owed ⌝ }
+    ensures { λ r. ⌜ r ≡ after s (now (node .entry)) (owed - 1) b ⌝ }
+{
+    if owed == 1 {
+        return b;
+    }
+    let next = link_of(node, s, b);
+    if owed == 2 {
+        return next;
+    }
+    last_of(&node[0..node.len()], s, next, owed - 1)
+}
+
 // Puts the chain of `owed` blocks from b on, in its order, before the free list.
 pub fn give_back(node: &mut [u32], s: Settings, b: u32, owed: usize)
     requires { ⌜ Walks s (now node) owed b ⌝ }
     requires { ⌜ 1 ≤ owed ⌝ }
     ensures { λ _. ⌜ now (node .exit) ≡ givenBack s (now (node .entry)) owed b ⌝ }
 {
-    let last = last_of(node, s, b, owed);
+    let last = end_of(node, s, b, owed);
     let first = node[0];
     set_link(node, s, last, first);
     node[0] = b;

@@ -1,12 +1,12 @@
 // The shape of a queue: where it starts, how many items it has, and the slots outside them.
 use queues::Kind;
 ghost use mathlib.Core.Path.{_≡_};
+ghost use mathlib.Core.Bool.{_&&_};
 ghost use Prim.Native.Nat.{_+_, _<_, _≤_};
 ghost use lib.Dec.{eqb};
 ghost use lib.ListN.{length};
 ghost use Rattle.queues.specs.Queue.{Placed, start, items};
 ghost use Rattle.sound.specs.Queues.{inShape};
-ghost use mathlib.Core.Bool.{_&&_};
 ghost use Rattle.shapes.specs.Shape.{zeroes, clearOutside};
 ghost use Rattle.shapes.specs.Lanes.{noBits};
 

@@ -1,19 +1,12 @@
 -- `judging::go_far` meets its contract. Assumes nothing.
 use Rattle.visits.proofs.Walks.{was-over, was-further}
 use mathlib.Core.Path.{_≡_}
-use mathlib.Core.List.{List}
-use lib.ListN.{length}
-use lib.Seq.{take-all}
-use Rattle.words.specs.Words.{part}
+use Rattle.words.proofs.Parts.{part-all}
 use Prim.Native.Nat.{ℕ, _-_}
 use native.Mathlib.Omega.{arith}
 use borrow.Author.Needs.{needs}
 use Rattle.judging.proofs.go_far.Statement.{statement}
 use Rattle.judging.proofs.go_far.Tie as tie
-
--- the part of a list that is all of it
-whole : (l : List ℕ) → part l 0 (length l) ≡ l
-whole l = take-all (length l - 0) l (omega arith)
 
 down : (n : ℕ) → n - 2 ≡ n - 1 - 1
 down n = omega arith
@@ -64,13 +57,13 @@ sub-follow-2 : tie.Need-sub-follow-2
 sub-follow-2 c = let x = c .before .before .before .before .before .before .before .before .before .before .before .before .before .before .before .before .before .before .args in omega (arith, (was-further 1 (x .node .now) (x .before) (x .width) (x .m) (x .owed) (x .b) (x .marks .now) _ _ (c .before .before .before .before .before .before .before .before .before .before .before .before .before .before .go-on .ensures) _ (c .before .before .before .before .before .before .before .before .before .before .first2 .given .1)) .1, (was-further 1 (x .node .now) (x .before) (x .width) (x .m) _ _ _ _ _ (c .before .before .before .before .before .before .before .go-on2 .ensures) _ (c .before .before .before .second2 .given .1)) .1)
 
 follow-requires : tie.Need-follow-requires
-follow-requires c κs = let y = c .before .before .before .before .before .before .before .before .before .before .before .before .before .before .before .before .before .before in let x = y .args in (rw (whole (x .node .now)) (y .pre .0), (omega (arith, c .before .before .before .before .before .before .before .before .before .before .before .before .before .before .go-on .kept .1 .1 .1 .1 .0, c .before .before .before .before .before .before .before .go-on2 .kept .1 .1 .1 .1 .0, y .pre .1 .0), (was-further 1 (x .node .now) (x .before) (x .width) (x .m) _ _ _ _ _ (c .before .before .before .before .before .before .before .go-on2 .ensures) _ (c .before .before .before .second2 .given .1)) .0))
+follow-requires c κs = let y = c .before .before .before .before .before .before .before .before .before .before .before .before .before .before .before .before .before .before in let x = y .args in (rw (part-all (x .node .now)) (y .pre .0), (omega (arith, c .before .before .before .before .before .before .before .before .before .before .before .before .before .before .go-on .kept .1 .1 .1 .1 .0, c .before .before .before .before .before .before .before .go-on2 .kept .1 .1 .1 .1 .0, y .pre .1 .0), (was-further 1 (x .node .now) (x .before) (x .width) (x .m) _ _ _ _ _ (c .before .before .before .before .before .before .before .go-on2 .ensures) _ (c .before .before .before .second2 .given .1)) .0))
 
 same-length-3 : tie.Need-same-length-3
 same-length-3 c = search needs
 
 returns-3 : tie.Need-returns-3
-returns-3 c = let x = c .before .before .before .before .before .before .before .before .before .before .before .before .before .before .before .before .before .before .before .before .before .args in let e : x .owed - 2 ≡ x .owed - 1 - 1 = down (x .owed) in (was-further 1 (x .node .now) (x .before) (x .width) (x .m) (x .owed) (x .b) (x .marks .now) _ _ (c .before .before .before .before .before .before .before .before .before .before .before .before .before .before .before .before .before .go-on .ensures) _ (c .before .before .before .before .before .before .before .before .before .before .before .before .before .first2 .given .1)) .2 _ _ ((was-further 1 (x .node .now) (x .before) (x .width) (x .m) _ _ _ _ _ (c .before .before .before .before .before .before .before .before .before .before .go-on2 .ensures) _ (c .before .before .before .before .before .before .second2 .given .1)) .2 _ _ (rw (e, whole (x .node .now)) at (c .before .before .follow .ensures)))
+returns-3 c = let x = c .before .before .before .before .before .before .before .before .before .before .before .before .before .before .before .before .before .before .before .before .before .args in let e : x .owed - 2 ≡ x .owed - 1 - 1 = down (x .owed) in (was-further 1 (x .node .now) (x .before) (x .width) (x .m) (x .owed) (x .b) (x .marks .now) _ _ (c .before .before .before .before .before .before .before .before .before .before .before .before .before .before .before .before .before .go-on .ensures) _ (c .before .before .before .before .before .before .before .before .before .before .before .before .before .first2 .given .1)) .2 _ _ ((was-further 1 (x .node .now) (x .before) (x .width) (x .m) _ _ _ _ _ (c .before .before .before .before .before .before .before .before .before .before .go-on2 .ensures) _ (c .before .before .before .before .before .before .second2 .given .1)) .2 _ _ (rw (e, part-all (x .node .now)) at (c .before .before .follow .ensures)))
 
 pub go-far-spec : {M : Type 1} → statement M
 go-far-spec =
