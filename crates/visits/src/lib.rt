@@ -67,6 +67,31 @@ pub enum Went {
     Over(usize),
 }
 
+// One block of a walk with one block or more left.
+fn go_sure(
+    node: &[u32],
+    before: usize,
+    width: usize,
+    m: usize,
+    marks: &mut [u8],
+    b: u32,
+    owed: usize,
+) -> Went
+    requires { ⌜ Linked (now node) before width m ⌝ }
+    requires { ⌜ m < length (now marks) ⌝ }
+    requires { ⌜ (1 ≤ b) × (b ≤ m) ⌝ }
+    requires { ⌜ 1 ≤ owed ⌝ }
+    ensures { λ r. ⌜ Gone 1 (now (node .entry)) before width m owed b (now (marks .entry)) r (now (marks .exit)) ⌝ }
+{
+    let Stepped::On(next) = step(node, before, width, m, marks, b) else {
+        return Went::Over(0);
+    };
+    if next == 0 {
+        return Went::Over(owed);
+    }
+    Went::On(next)
+}
+
 // One block of a walk with `owed` blocks left.
 pub fn go_on(
     node: &[u32],
@@ -85,16 +110,10 @@ pub fn go_on(
     if owed == 0 {
         return Went::Over(0);
     }
-    let Stepped::On(next) = step(node, before, width, m, marks, b) else {
-        return Went::Over(0);
-    };
-    if next == 0 {
-        return Went::Over(owed);
-    }
-    Went::On(next)
+    go_sure(node, before, width, m, marks, b, owed)
 }
 
-// Two blocks of a walk.
+// Two blocks of a walk with two or more left.
 fn go_two(
     node: &[u32],
     before: usize,
@@ -107,19 +126,43 @@ fn go_two(
     requires { ⌜ Linked (now node) before width m ⌝ }
     requires { ⌜ m < length (now marks) ⌝ }
     requires { ⌜ (1 ≤ b) × (b ≤ m) ⌝ }
+    requires { ⌜ 2 ≤ owed ⌝ }
     ensures { λ r. ⌜ Gone 2 (now (node .entry)) before width m owed b (now (marks .entry)) r (now (marks .exit)) ⌝ }
 {
-    let first = go_on(node, before, width, m, marks, b, owed);
+    let first = go_sure(node, before, width, m, marks, b, owed);
     let next = match first {
         Went::Over(r) => return Went::Over(r),
         Went::On(next) => next,
     };
-    go_on(node, before, width, m, marks, next, owed - 1)
+    go_sure(node, before, width, m, marks, next, owed - 1)
+}
+
+// The walk from block b on where few blocks are owed, one a call.
+fn follow_few(
+    node: &[u32],
+    before: usize,
+    width: usize,
+    m: usize,
+    marks: &mut [u8],
+    b: u32,
+    owed: usize,
+) -> usize
+    requires { ⌜ Linked (now node) before width m ⌝ }
+    requires { ⌜ m < length (now marks) ⌝ }
+    requires { ⌜ (1 ≤ b) × (b ≤ m) ⌝ }
+    ensures { λ r. ⌜ Walked (now (node .entry)) before width m owed b (now (marks .entry)) r (now (marks .exit)) ⌝ }
+{
+    let first = go_on(node, before, width, m, marks, b, owed);
+    let next = match first {
+        Went::Over(r) => return r,
+        Went::On(next) => next,
+    };
+    follow_few(node, before, width, m, marks, next, owed - 1)
 }
 
 // The walk from block b on, `owed` blocks at most, each link followed leaving one fewer owed: one more than how many of
-// them were not there, or 0 for a bad chain. It takes numbers and answers a number, and goes eight blocks before it calls
-// itself, so that a block costs little and the stack stays low.
+// them were not there, or 0 for a bad chain. It takes numbers and answers a number, and goes eight blocks, which are owed for
+// sure, before it calls itself: so a block costs little and the stack stays low.
 pub fn follow(
     node: &[u32],
     before: usize,
@@ -134,6 +177,9 @@ pub fn follow(
     requires { ⌜ (1 ≤ b) × (b ≤ m) ⌝ }
     ensures { λ r. ⌜ Walked (now (node .entry)) before width m owed b (now (marks .entry)) r (now (marks .exit)) ⌝ }
 {
+    if owed < 8 {
+        return follow_few(node, before, width, m, marks, b, owed);
+    }
     let first = go_two(node, before, width, m, marks, b, owed);
     let b1 = match first {
         Went::Over(r) => return r,
