@@ -5,11 +5,10 @@ use mathlib.Core.List.{List, [], _∷_}
 use Prim.Native.Nat.{ℕ, _+_, _-_, _*_, _≤_, _<_}
 use native.Mathlib.Omega.{arith}
 use lib.Bits.{bitOr}
-use lib.Dec.{eqb, leb}
+use lib.Dec.{eqb}
 use lib.ListN.{length, getD}
-use borrow.Author.Tests.{le-ltb, lt-ltb}
 use Rattle.words.proofs.Bits.{or-zero}
-use Rattle.words.proofs.Lists.{split, and-false}
+use Rattle.words.proofs.Lists.{split}
 use Rattle.settings.specs.declared.Settings.{Settings}
 use Rattle.layout.specs.Places.{blockAt}
 use Rattle.layout.proofs.Fits.{block-fits, node-small}
@@ -22,30 +21,9 @@ use Rattle.visits.specs.declared.Walk.the-variants.{Ended, Bad}
 use Rattle.visits.specs.Marks.{marked, Walked, Visited}
 use Rattle.visits.specs.Letters.{isOn, fitsLength, lettersRight, Judged, Whole, Readable}
 use Rattle.visits.proofs.Walks.{told-bad, told-ended, visited-as, link-word}
-use Rattle.visits.proofs.Read.{fits-low, fits-high, fits-few, fits-told, fits-is, near-block, near-length, head-word, word-lies}
+use Rattle.visits.proofs.Read.{fits-is, near-block, near-length, head-word, word-lies}
 use Rattle.visits.proofs.Judge.{header-is, letter-bad, its-ends, left-least, its-count, letter-short, letter-head}
 use Rattle.judging.specs.Aim.{isAimed, Headed}
-
--- ---- a length by what is wrong with it
-module _ (s : Settings) (n k odd : ℕ) where
-  fit-wrong : odd ≡ 1 → false ≡ fitsLength s n k → eqb odd 0 ≡ fitsLength s n k
-  fit-wrong e f = rw e f
-
-  pub fit-low : odd ≡ 1 → k < 5 → eqb odd 0 ≡ fitsLength s n k
-  fit-low e h = fit-wrong e (fits-low s n k h)
-
-  pub fit-high : odd ≡ 1 → 1024 < k → eqb odd 0 ≡ fitsLength s n k
-  fit-high e h = fit-wrong e (fits-high s n k h)
-
-  pub fit-few : odd ≡ 1 → n * (s .b - 1) < k → eqb odd 0 ≡ fitsLength s n k
-  fit-few e h = fit-wrong e (fits-few s n k h)
-
-  pub fit-many : odd ≡ 1 → k + (s .b - 1) ≤ n * (s .b - 1) → eqb odd 0 ≡ fitsLength s n k
-  unfolding fitsLength
-  fit-many e h = fit-wrong e (rw (le-ltb (n * (s .b - 1)) (k + (s .b - 1)) h, and-false (leb k (n * (s .b - 1))), and-false (leb k 1024)) (sym (and-false (leb 5 k))))
-
-  pub fit-is : odd ≡ 0 → 5 ≤ k → k ≤ 1024 → k ≤ n * (s .b - 1) → n * (s .b - 1) < k + (s .b - 1) → eqb odd 0 ≡ fitsLength s n k
-  fit-is e h g f d = rw e (sym (lt-ltb (n * (s .b - 1)) (k + (s .b - 1)) d) ∙ fits-told s n k h g f)
 
 module _ (s : Settings) (l t : List ℕ) (i p : ℕ) (post : Bool) (k owner : ℕ) (g : Headed s l t i p post k owner) (b : ℕ) (some : 1 ≤ b) (marks : List ℕ) (before : ℕ) (place : before ≡ blockAt s 1 - 1) (told : ℕ) (new : List ℕ) (w : Walked l before (s .b) (s .m) (s .m) b marks told new) where
   there : b ≡ 0 → ⊥

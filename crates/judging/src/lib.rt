@@ -8,14 +8,13 @@ ghost use mathlib.Core.List.{[], _∷_};
 ghost use Prim.Native.Nat.{_-_, _≤_, _<_};
 ghost use lib.Dec.{eqb};
 ghost use lib.ListN.{length};
-ghost use Rattle.settings.specs.Range.{InRange};
 ghost use Rattle.layout.specs.Places.{nodes, blockAt};
 ghost use Rattle.tasks.specs.Table.{rightTable};
 ghost use Rattle.queues.specs.Queue.{Placed, Queue, contents};
 ghost use Rattle.queues.specs.Items.{live, gapFlag};
 ghost use Rattle.sound.specs.Blocks.{chains};
 ghost use Rattle.visits.specs.Marks.{marked, Linked, Walked};
-ghost use Rattle.visits.specs.Letters.{isOn, fitsLength, lettersRight, Judged, Placing};
+ghost use Rattle.visits.specs.Letters.{isOn, lettersRight, Judged, Placing};
 ghost use Rattle.judging.specs.Aim.{isAimed, Aimed, Headed};
 ghost use Rattle.judging.specs.Filled.{filledRight};
 
@@ -43,31 +42,6 @@ fn astray(
         aim = (from ^ i) | (to ^ k);
     }
     (ids | ends) | (off | aim)
-}
-
-// What is wrong with a length: 0 where a letter of `count` blocks may have n words and needs the blocks. No branch is taken, so that this
-// is joined with the rest.
-fn misfit(s: Settings, count: usize, n: u32) -> u32
-    requires { ⌜ InRange s ⌝ }
-    requires { ⌜ count ≤ 1024 ⌝ }
-    ensures { λ r. ⌜ eqb r 0 ≡ fitsLength s count n ⌝ }
-{
-    let room = s.b - 1;
-    let carried = count * room;
-    let mut odd: u32 = 0;
-    if n < 5 {
-        odd = 1;
-    }
-    if 1024 < n {
-        odd = 1;
-    }
-    if carried < n as usize {
-        odd = 1;
-    }
-    if n as usize + room <= carried {
-        odd = 1;
-    }
-    odd
 }
 
 // The walk from block b on as `visits::follow` makes it, its first two blocks with no call: most letters have no more. The stretch is lent
@@ -126,7 +100,7 @@ fn is_right_near(
     }
     let count = s.m - (told - 1);
     let at = before + b as usize * s.b - (s.b - 1);
-    let wrong = misfit(s, count, node[at + 4])
+    let wrong = visits::misfit(s, count, node[at + 4])
         | astray(
             table,
             post,

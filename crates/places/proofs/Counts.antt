@@ -2,19 +2,18 @@
 use mathlib.Core.Path.{_≡_, refl, sym, ap, ap₂, _∙_}
 use mathlib.Core.Bool.{Bool, true, false, _&&_}
 use mathlib.Core.List.{List, [], _∷_}
-use mathlib.Core.Logic.{⊎-elim}
 use Prim.Native.Nat.{ℕ, zero, suc, _+_, _-_, _^_, _≤_, _<_}
 use native.Mathlib.Numerals.{add-one}
 use native.Mathlib.Omega.{arith}
-use lib.Bits.{bitOr, or-lt}
-use lib.Dec.{eqb, leb, ltb}
+use lib.Bits.{bitOr}
+use lib.Dec.{eqb, ltb}
 use lib.ListN.{length, getD, set, length-set}
 use lib.Seq.{getD-set-same, getD-set-other}
-use borrow.Author.Tests.{eq-eqb, eqb-true, le-leb, lt-leb, lt-ltb, le-ltb, ltb-true}
+use borrow.Author.Tests.{eq-eqb, eqb-true}
 use Rattle.words.specs.Count.{occurs}
 use Rattle.words.specs.Words.{every}
-use Rattle.words.proofs.Bits.{or-least}
-use Rattle.words.proofs.Lists.{same?, same-test, le-or-lt, and-true, and-join, and-false}
+use Rattle.words.proofs.Bits.{or-below}
+use Rattle.words.proofs.Lists.{same?, and-true, and-join, and-false}
 use Rattle.sound.proofs.Tests.{and-yes, and-cross, every-step}
 use Rattle.words.proofs.Count.{hit-self, hit-other}
 use Rattle.visits.specs.Marks.{fresh, marked}
@@ -70,30 +69,6 @@ module _ (t : ℕ → Bool) (k : ℕ) (all : Bool) where
   unfolding every
   all-more f e = rw (add-one k, f) (e ∙ sym (and-yes (every k t)))
 
--- ---- numbers that are joined stay below a power of two where each of them does
-pub or-below : (e x y : ℕ) → ltb (bitOr x y) (2 ^ e) ≡ ltb x (2 ^ e) && ltb y (2 ^ e)
-or-below e x y =
-    same-test (ltb (bitOr x y) (2 ^ e)) (ltb x (2 ^ e) && ltb y (2 ^ e))
-    (λ h. let k = ltb-true (bitOr x y) (2 ^ e) h in let m = or-least x y in
-    and-join (ltb x (2 ^ e)) (ltb y (2 ^ e)) (lt-ltb x (2 ^ e) (omega arith)) (lt-ltb y (2 ^ e) (omega arith)))
-    (λ h. let w = and-true (ltb x (2 ^ e)) (ltb y (2 ^ e)) h in
-    lt-ltb (bitOr x y) (2 ^ e) (or-lt e x y (ltb-true x (2 ^ e) (w .0)) (ltb-true y (2 ^ e) (w .1))))
-
+-- ---- a test of all by numbers that are joined and stay below a power of two
 pub below-more : (e : ℕ) (p : ℕ → Bool) (b bits x : ℕ) → ltb bits (2 ^ e) ≡ every b p → p b ≡ ltb x (2 ^ e) → ltb (bitOr bits x) (2 ^ e) ≡ every (b + 1) p
 below-more e p b bits x so this = or-below e bits x ∙ ap₂ _&&_ so (sym this) ∙ sym (every-step p b)
-
--- a number with n less m added reaches n where it is not below m
-pub slot-shows : (n m x : ℕ) → m ≤ n → ltb (n - m + x) n ≡ ltb x m
-slot-shows n m x h =
-    ⊎-elim
-    (λ k. le-ltb (n - m + x) n (omega arith) ∙ sym (le-ltb x m k))
-    (λ k. lt-ltb (n - m + x) n (omega arith) ∙ sym (lt-ltb x m k))
-    (le-or-lt m x)
-
--- and with one less, where it is above m
-pub spare-shows : (n m x : ℕ) → m < n → leb x m ≡ ltb (n - 1 - m + x) n
-spare-shows n m x h =
-    ⊎-elim
-    (λ k. le-leb x m k ∙ sym (lt-ltb (n - 1 - m + x) n (omega arith)))
-    (λ k. lt-leb x m k ∙ sym (le-ltb (n - 1 - m + x) n (omega arith)))
-    (le-or-lt x m)

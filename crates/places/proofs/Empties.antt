@@ -11,13 +11,12 @@ use lib.Dec.{eqb, ltb}
 use lib.ListN.{length, getD}
 use borrow.Author.Tests.{lt-ltb, le-ltb, eq-eqb, ne-eqb}
 use Rattle.words.specs.Words.{every}
-use Rattle.words.proofs.Bits.{or-zero}
+use Rattle.words.proofs.Bits.{or-zero, or-below, slot-shows}
 use Rattle.words.proofs.Lists.{split, same?, le-or-lt, and-false, every-at, every-all}
 use Rattle.settings.specs.declared.Settings.{Settings}
 use Rattle.layout.specs.Places.{gapWord}
 use Rattle.queues.specs.declared.Kind.{Kind}
 use Rattle.queues.specs.Queue.{start, items, Placed}
-use Rattle.queues.specs.Items.{live}
 use Rattle.tasks.specs.Seat.{seatAt}
 use Rattle.sound.specs.Queues.{inShape}
 use Rattle.sound.specs.Blocks.{begun}
@@ -30,7 +29,6 @@ use Rattle.places.specs.declared.Passed.{Passed}
 use Rattle.places.specs.declared.Passed.the-variants.{To, All, Wrong}
 use Rattle.places.specs.Runs.{Row, rightEmpty, passedRight, Passes, Stands}
 use Rattle.places.proofs.Begun.{none-live}
-use Rattle.places.proofs.Counts.{or-below, slot-shows}
 
 -- ---- where the queues of a row stand
 module _ (kind : Kind) (l : List ℕ) (at step n : ℕ) (row : Row kind l at step n) where

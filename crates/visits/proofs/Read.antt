@@ -8,7 +8,7 @@ use native.Mathlib.Nat.{suc-mul, mul-le-mul, mul-le-mul-right, div-add-mod', div
 use native.Mathlib.Omega.{arith}
 use lib.Dec.{eqb, leb, ltb}
 use lib.ListN.{length, getD, List·getD-eq-default}
-use borrow.Author.Tests.{eq-eqb, eqb-true, le-leb, lt-leb, leb-true, lt-ltb, ltb-true}
+use borrow.Author.Tests.{eq-eqb, eqb-true, le-leb, lt-leb, leb-true, lt-ltb, ltb-true, le-ltb}
 use Rattle.words.proofs.Lists.{and-true, and-false, and-join, same-test, le-or-lt}
 use Rattle.settings.specs.declared.Settings.{Settings}
 use Rattle.settings.specs.Range.{InRange}
@@ -61,21 +61,42 @@ module _ (s : Settings) (r : InRange s) (k n : ℕ) where
 
 -- the tests of a length, one after the other
 module _ (s : Settings) (n k : ℕ) where
-  pub fits-low : k < 5 → false ≡ fitsLength s n k
+  fits-low : k < 5 → false ≡ fitsLength s n k
   unfolding fitsLength
   fits-low h = rw (lt-leb 5 k h)
 
-  pub fits-high : 1024 < k → false ≡ fitsLength s n k
+  fits-high : 1024 < k → false ≡ fitsLength s n k
   unfolding fitsLength
   fits-high h = rw (lt-leb k 1024 h) (sym (and-false (leb 5 k)))
 
-  pub fits-few : n * (s .b - 1) < k → false ≡ fitsLength s n k
+  fits-few : n * (s .b - 1) < k → false ≡ fitsLength s n k
   unfolding fitsLength
   fits-few h = rw (lt-leb k (n * (s .b - 1)) h, and-false (leb k 1024)) (sym (and-false (leb 5 k)))
 
-  pub fits-told : 5 ≤ k → k ≤ 1024 → k ≤ n * (s .b - 1) → ltb (n * (s .b - 1)) (k + (s .b - 1)) ≡ fitsLength s n k
+  fits-told : 5 ≤ k → k ≤ 1024 → k ≤ n * (s .b - 1) → ltb (n * (s .b - 1)) (k + (s .b - 1)) ≡ fitsLength s n k
   unfolding fitsLength
   fits-told h g f = rw (le-leb 5 k h, le-leb k 1024 g, le-leb k (n * (s .b - 1)) f)
+
+-- ---- a length by what is wrong with it
+module _ (s : Settings) (n k odd : ℕ) where
+  fit-wrong : odd ≡ 1 → false ≡ fitsLength s n k → eqb odd 0 ≡ fitsLength s n k
+  fit-wrong e f = rw e f
+
+  pub fit-low : odd ≡ 1 → k < 5 → eqb odd 0 ≡ fitsLength s n k
+  fit-low e h = fit-wrong e (fits-low s n k h)
+
+  pub fit-high : odd ≡ 1 → 1024 < k → eqb odd 0 ≡ fitsLength s n k
+  fit-high e h = fit-wrong e (fits-high s n k h)
+
+  pub fit-few : odd ≡ 1 → n * (s .b - 1) < k → eqb odd 0 ≡ fitsLength s n k
+  fit-few e h = fit-wrong e (fits-few s n k h)
+
+  pub fit-many : odd ≡ 1 → k + (s .b - 1) ≤ n * (s .b - 1) → eqb odd 0 ≡ fitsLength s n k
+  unfolding fitsLength
+  fit-many e h = fit-wrong e (rw (le-ltb (n * (s .b - 1)) (k + (s .b - 1)) h, and-false (leb k (n * (s .b - 1))), and-false (leb k 1024)) (sym (and-false (leb 5 k))))
+
+  pub fit-is : odd ≡ 0 → 5 ≤ k → k ≤ 1024 → k ≤ n * (s .b - 1) → n * (s .b - 1) < k + (s .b - 1) → eqb odd 0 ≡ fitsLength s n k
+  fit-is e h g f d = rw e (sym (lt-ltb (n * (s .b - 1)) (k + (s .b - 1)) d) ∙ fits-told s n k h g f)
 
 needs-tight : (s : Settings) → InRange s → (k : ℕ) → needs s k * (s .b - 1) < k + (s .b - 1)
 unfolding needs

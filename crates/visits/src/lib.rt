@@ -4,6 +4,7 @@ ghost use mathlib.Core.Path.{_≡_};
 ghost use mathlib.Core.Bool.{true, _&&_};
 ghost use mathlib.Core.List.{[], _∷_};
 ghost use Prim.Native.Nat.{_≤_, _<_};
+ghost use lib.Dec.{eqb};
 ghost use lib.ListN.{length};
 ghost use Rattle.settings.specs.Range.{InRange};
 ghost use Rattle.layout.specs.Asked.{Stretch};
@@ -234,24 +235,29 @@ pub fn visit(node: &[u32], s: Settings, marks: &mut [u8], b: u32, owed: usize) -
     Walk::Ended(left - 1)
 }
 
-// Whether n is a valid length of a letter that has `count` blocks, and needs them: the words that they carry are compared with it, without a division.
-pub fn fits_length(s: Settings, count: usize, n: usize) -> bool
+// What is wrong with a length: 0 where a letter of `count` blocks may have n words and needs the blocks. No branch is taken, so that this
+// is joined with the rest.
+pub fn misfit(s: Settings, count: usize, n: u32) -> u32
     requires { ⌜ InRange s ⌝ }
     requires { ⌜ count ≤ 1024 ⌝ }
-    ensures { λ r. ⌜ r ≡ fitsLength s count n ⌝ }
+    ensures { λ r. ⌜ eqb r 0 ≡ fitsLength s count n ⌝ }
 {
     let room = s.b - 1;
     let carried = count * room;
+    let mut odd: u32 = 0;
     if n < 5 {
-        return false;
+        odd = 1;
     }
     if 1024 < n {
-        return false;
+        odd = 1;
     }
-    if carried < n {
-        return false;
+    if carried < n as usize {
+        odd = 1;
     }
-    carried < n + room
+    if n as usize + room <= carried {
+        odd = 1;
+    }
+    odd
 }
 
 // Whether the letter that block b begins has a valid length and the blocks it needs; it has `count`.
@@ -262,8 +268,8 @@ fn is_right_length(node: &[u32], s: Settings, b: u32, count: usize) -> bool
     if count < blocks::needs_of(s, 5) {
         return false;
     }
-    let n = letters::told_length(node, s, b) as usize;
-    fits_length(s, count, n)
+    let n = letters::told_length(node, s, b);
+    misfit(s, count, n) == 0
 }
 
 // Whether the task is bound, and on that node: in a right table the node's number tells that the task is bound.

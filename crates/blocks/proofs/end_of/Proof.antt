@@ -1,5 +1,5 @@
 -- `blocks::end_of` meets its contract: its two steps, and the walk from the third block on. Assumes nothing.
-use mathlib.Core.Path.{_≡_, sym, _∙_}
+use mathlib.Core.Path.{sym, _∙_}
 use Prim.Native.Nat.{_-_}
 use native.Mathlib.Omega.{arith}
 use Rattle.words.proofs.Parts.{part-all}

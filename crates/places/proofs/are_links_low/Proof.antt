@@ -1,5 +1,6 @@
 -- `places::are_links_low` meets its contract. Assumes nothing.
-use Rattle.places.proofs.Counts.{none-yet, below-more, spare-shows}
+use Rattle.words.proofs.Bits.{spare-shows}
+use Rattle.places.proofs.Counts.{none-yet, below-more}
 use Rattle.visits.specs.Marks.{linksLow}
 use Rattle.blocks.specs.Chain.{link}
 use Rattle.layout.specs.Places.{blockAt, linkAt}

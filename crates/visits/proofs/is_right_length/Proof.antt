@@ -15,16 +15,13 @@ returns c = let y = c .before .before .before in let x = y .args in told-short (
 told-length-requires : tie.Need-told-length-requires
 told-length-requires c κs = let y = c .before .before .before in let x = y .args in head-lies (x .s) (x .node .now) (x .b) (x .count) (y .pre) (omega (arith, c .before .needs-of .ensures))
 
-cast-n : tie.Need-cast-n
-cast-n c = search needs
-
-fits-length-requires : tie.Need-fits-length-requires
-fits-length-requires c κs = let y = c .before .before .before .before in let x = y .args in (y .pre .stretch .range, count-small (x .s) (x .node .now) (x .b) (x .count) (y .pre))
+misfit-requires : tie.Need-misfit-requires
+misfit-requires c κs = let y = c .before .before .before .before in let x = y .args in (y .pre .stretch .range, count-small (x .s) (x .node .now) (x .b) (x .count) (y .pre))
 
 returns-2 : tie.Need-returns-2
-returns-2 c = let y = c .before .before .before .before .before in let x = y .args in c .fits-length .ensures ∙ fits-is (x .s) (x .node .now) (x .b) (x .count) (y .pre) _ (c .before .told-length .ensures ∙ told-is (x .s) (x .node .now) (x .b) (x .count) (y .pre) (omega (arith, c .before .before .before .needs-of .ensures)))
+returns-2 c = let y = c .before .before .before .before .before in let x = y .args in c .misfit .ensures ∙ fits-is (x .s) (x .node .now) (x .b) (x .count) (y .pre) _ (c .before .told-length .ensures ∙ told-is (x .s) (x .node .now) (x .b) (x .count) (y .pre) (omega (arith, c .before .before .before .needs-of .ensures)))
 
 pub is-right-length-spec : {M : Type 1} → statement M
 is-right-length-spec =
     tie.close
-    (tie.spec needs-of-requires returns told-length-requires cast-n fits-length-requires returns-2)
+    (tie.spec needs-of-requires returns told-length-requires misfit-requires returns-2)

@@ -1,12 +1,11 @@
--- `judging::misfit` meets its contract. Assumes nothing.
+-- `visits::misfit` meets its contract. Assumes nothing.
 use native.Mathlib.Omega.{arith}
 use mathlib.Core.Path.{refl, _∙_}
 use mathlib.Core.Logic.{⊎-elim}
-use Rattle.visits.proofs.Read.{carried-small}
-use Rattle.judging.proofs.Near.{fit-low, fit-high, fit-few, fit-many, fit-is}
+use Rattle.visits.proofs.Read.{carried-small, fit-low, fit-high, fit-few, fit-many, fit-is}
 use borrow.Author.Needs.{needs}
-use Rattle.judging.proofs.misfit.Statement.{statement}
-use Rattle.judging.proofs.misfit.Tie as tie
+use Rattle.visits.proofs.misfit.Statement.{statement}
+use Rattle.visits.proofs.misfit.Tie as tie
 
 sub-room : tie.Need-sub-room
 sub-room c = search needs
