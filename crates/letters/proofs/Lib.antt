@@ -3,6 +3,5 @@ pub mod Rows
 pub mod Steps
 pub mod Laws
 pub mod Copies
-pub mod Moving
 pub mod Examples
 pub mod Sends

@@ -20,9 +20,10 @@ use Rattle.blocks.specs.declared.Taken.{Taken}
 use Rattle.blocks.specs.declared.Taken.the-variants.{First, Short}
 use Rattle.blocks.proofs.Moves.{length-list, length-taken, taken-stretch, take-chained}
 use Rattle.letters.specs.Letter.{copied}
-use Rattle.letters.specs.Asked.{Lies, Copies}
+use Rattle.letters.specs.Asked.{Lies}
 use Rattle.letters.proofs.Rows.{needs-enough}
 use Rattle.letters.proofs.Copies.{lies-chained}
+use Rattle.copying.specs.Asked.{Copies}
 use Rattle.queues.specs.declared.Kind.{Kind}
 use Rattle.queues.specs.Queue.{sendKind, items, itemAt}
 use Rattle.queues.specs.Moves.{counted, dropped}

@@ -168,7 +168,7 @@ pub fn copy_in(memory: &mut [u32], s: Settings, i: usize, j: usize) -> Stage
         count_room(memory, s, j);
         return Stage::Stopped(5);
     };
-    letters::copy(memory, s, length, i, x, j, c);
+    copying::copy(memory, s, length, i, x, j, c);
     Stage::Done
 }
 

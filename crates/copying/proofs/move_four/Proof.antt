@@ -1,10 +1,10 @@
--- `letters::move_four` meets its contract. Assumes nothing.
+-- `copying::move_four` meets its contract. Assumes nothing.
 use native.Mathlib.Omega.{arith}
 use lib.ListN.{length-set}
 use borrow.Author.Needs.{needs}
-use Rattle.letters.proofs.Moving.{four-is}
-use Rattle.letters.proofs.move_four.Statement.{statement}
-use Rattle.letters.proofs.move_four.Tie as tie
+use Rattle.copying.proofs.Moving.{four-is}
+use Rattle.copying.proofs.move_four.Statement.{statement}
+use Rattle.copying.proofs.move_four.Tie as tie
 
 slice-write-memory-2 : tie.Need-slice-write-memory-2
 slice-write-memory-2 c = simp length-set (omega arith)

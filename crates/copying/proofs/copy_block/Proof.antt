@@ -1,10 +1,10 @@
--- `letters::copy_block` meets its contract. Assumes nothing.
+-- `copying::copy_block` meets its contract. Assumes nothing.
 use mathlib.Core.Path.{ap₂}
 use Prim.Native.Nat.{ℕ, _+_}
 use borrow.Author.Needs.{needs}
-use Rattle.letters.proofs.Moving.{block-moves, block-moved}
-use Rattle.letters.proofs.copy_block.Statement.{statement}
-use Rattle.letters.proofs.copy_block.Tie as tie
+use Rattle.copying.proofs.Moving.{block-moves, block-moved}
+use Rattle.copying.proofs.copy_block.Statement.{statement}
+use Rattle.copying.proofs.copy_block.Tie as tie
 
 move-words-requires : tie.Need-move-words-requires
 move-words-requires c κs =

@@ -16,10 +16,10 @@ use Rattle.layout.specs.Asked.{Sized}
 use Rattle.layout.proofs.Fits.{block-fits}
 use Rattle.blocks.specs.Chain.{needs, link, chain, text}
 use Rattle.blocks.specs.Asked.{Walks}
 use Rattle.letters.specs.Letter.{letter, piece, laid, copied}
-use Rattle.letters.specs.Asked.{Moves, CopiesBlock, Copies}
 use Rattle.letters.proofs.Steps.{piece-is, piece-long, head-block, walks-rest, front-words, rest-words, laid-none, laid-step, walks-laid, words-rest}
 use Rattle.letters.proofs.Copies.{inside, before-node, node-long, length-letter, put-long, put-to, put-again, put-away}
+use Rattle.copying.specs.Asked.{Moves, CopiesBlock, Copies}
 
 -- ---- stores beside and over a run of stores
 sets-away : (p l : List ℕ) (a i : ℕ) → (i < a) ⊎ (a + length p ≤ i) → getD (sets l a p) i 0 ≡ getD l i 0

@@ -1,11 +1,11 @@
--- `letters::copy` meets its contract: what is still to be copied from here on makes the whole copy. Assumes nothing.
+-- `copying::copy` meets its contract: what is still to be copied from here on makes the whole copy. Assumes nothing.
 use mathlib.Core.Path.{_≡_, refl, _∙_}
 use Prim.Native.Nat.{_≤_}
 use native.Mathlib.Omega.{arith}
 use lib.ListN.{length}
-use Rattle.letters.proofs.Moving.{UnderWay, way-starts, way-block, way-goes, way-ends}
-use Rattle.letters.proofs.copy.Statement.{statement}
-use Rattle.letters.proofs.copy.Tie as tie
+use Rattle.copying.proofs.Moving.{UnderWay, way-starts, way-block, way-goes, way-ends}
+use Rattle.copying.proofs.copy.Statement.{statement}
+use Rattle.copying.proofs.copy.Tie as tie
 
 abbrev Inv-loop : tie.InvT-loop
 Inv-loop memory₀ s n i b j c owed₀ left₀ x₀ y₀ memory owed left x y = (length memory ≡ length memory₀) × UnderWay s memory₀ n i b j c memory owed left x y

@@ -1,13 +1,13 @@
--- `letters::move_few` meets its contract: after k turns the first k words stand. Assumes nothing.
+-- `copying::move_few` meets its contract: after k turns the first k words stand. Assumes nothing.
 use mathlib.Core.Path.{_≡_, refl, _∙_}
 use Prim.Native.Nat.{_+_, _-_, _≤_}
 use native.Mathlib.Omega.{arith}
 use lib.ListN.{length, take, length-set}
 use lib.Seq.{sets}
 use Rattle.words.specs.Words.{part}
-use Rattle.letters.proofs.Moving.{moved-more, moved-all}
-use Rattle.letters.proofs.move_few.Statement.{statement}
-use Rattle.letters.proofs.move_few.Tie as tie
+use Rattle.copying.proofs.Moving.{moved-more, moved-all}
+use Rattle.copying.proofs.move_few.Statement.{statement}
+use Rattle.copying.proofs.move_few.Tie as tie
 
 abbrev Inv-loop : tie.InvT-loop
 Inv-loop memory₀ from to n k₀ memory k =

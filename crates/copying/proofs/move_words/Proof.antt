@@ -1,13 +1,13 @@
--- `letters::move_words` meets its contract: after k words the first k stand, and the last four make them n. Assumes nothing.
+-- `copying::move_words` meets its contract: after k words the first k stand, and the last four make them n. Assumes nothing.
 use mathlib.Core.Path.{_≡_, refl, _∙_}
 use Prim.Native.Nat.{_+_, _-_, _≤_}
 use native.Mathlib.Omega.{arith}
 use lib.ListN.{length, take}
 use lib.Seq.{sets}
 use Rattle.words.specs.Words.{part}
-use Rattle.letters.proofs.Moving.{four-moves, moved-four, moved-all}
-use Rattle.letters.proofs.move_words.Statement.{statement}
-use Rattle.letters.proofs.move_words.Tie as tie
+use Rattle.copying.proofs.Moving.{four-moves, moved-four, moved-all}
+use Rattle.copying.proofs.move_words.Statement.{statement}
+use Rattle.copying.proofs.move_words.Tie as tie
 
 abbrev Inv-loop : tie.InvT-loop
 Inv-loop memory₀ from to n k₀ memory k =

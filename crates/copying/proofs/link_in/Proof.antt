@@ -1,12 +1,12 @@
--- `letters::link_in` meets its contract. Assumes nothing.
+-- `copying::link_in` meets its contract. Assumes nothing.
 use mathlib.Core.List.{List}
 use mathlib.Core.Path.{ap, _∙_}
 use Prim.Native.Nat.{ℕ}
 use borrow.Author.Needs.{needs}
 use Rattle.blocks.specs.Chain.{link}
 use Rattle.letters.proofs.Steps.{node-part}
-use Rattle.letters.proofs.link_in.Statement.{statement}
-use Rattle.letters.proofs.link_in.Tie as tie
+use Rattle.copying.proofs.link_in.Statement.{statement}
+use Rattle.copying.proofs.link_in.Tie as tie
 
 returns : tie.Need-returns
 returns c =
