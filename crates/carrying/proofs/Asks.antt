@@ -26,7 +26,8 @@ use Rattle.postman.specs.Round.{Did, did, Post, post, onStage, into, blocksBack
 use Rattle.postman.specs.Asked.{SoundAt, Waits, Owes}
 use Rattle.stages_keep.specs.Steps.{firstOf, spaceOf, copiedIn, queued, acknowledged, carried, carriedAll, collected, collectedAll, collectedFrom}
 use Rattle.stages_keep.proofs.Laws.{copied-stands, queued-stands, carried-next, carried-all, collected-next, names-in, names-apart, names-waits}
-use Rattle.stages.specs.Asked.{Lent, HasQueue, HasFirst, GaveBack}
+use Rattle.lending.specs.Asked.{Lent, HasQueue, HasFirst}
+use Rattle.stages.specs.Asked.{GaveBack}
 use Rattle.stages.proofs.Stood.{stood-sized, stood-lent, stood-stretch, stood-send, stood-ack}
 use Rattle.stages.proofs.Copying.{with-sized}
 use Rattle.carrying.specs.Asked.{Delivers, Carries, CarriesFrom, Collects, CollectsFrom}

@@ -23,7 +23,7 @@ ghost use Rattle.stages_keep.specs.Steps.{
   collectedAll,
   collectedFrom,
 };
-ghost use Rattle.stages.specs.Asked.{Lent, HasQueue};
+ghost use Rattle.lending.specs.Asked.{Lent, HasQueue};
 ghost use Rattle.carrying.specs.Asked.{
   Delivers,
   Carries,

@@ -25,9 +25,9 @@ use Rattle.letters.proofs.Rows.{needs-enough}
 use Rattle.letters.proofs.Copies.{lies-chained}
 use Rattle.copying.specs.Asked.{Copies}
 use Rattle.queues.specs.declared.Kind.{Kind}
-use Rattle.queues.specs.Queue.{sendKind, items, itemAt}
+use Rattle.queues.specs.Queue.{sendKind, items}
 use Rattle.queues.specs.Moves.{counted, dropped}
-use Rattle.queues.proofs.Views.{length-contents, contents-item}
+use Rattle.queues.proofs.Views.{length-contents}
 use Rattle.sound.specs.Reading.{tableIn}
 use Rattle.sound.specs.Letters.{chainFrom, toldLength}
 use Rattle.sound.proofs.Held.{Right}
@@ -38,19 +38,13 @@ use Rattle.postman.specs.Position.{atRest}
 use Rattle.postman.specs.Round.{did}
 use Rattle.postman.specs.Asked.{SoundAt, Waits}
 use Rattle.stages_keep.specs.Steps.{firstOf, copiedIn, sendDropped}
-use Rattle.stages.specs.Asked.{Lent, Begins, HasQueue, HasFirst, MayTake}
+use Rattle.lending.specs.Asked.{Lent, Begins, HasFirst, MayTake}
 use Rattle.stages.proofs.Stood.{stood-sized, stood-lent, stood-stretch, stood-free, stood-send, stood-other, stood-sent}
 
 -- ---- the first item of a send queue
 module _ (s : Settings) (m : List ℕ) (i j : ℕ) (g : HasFirst s m i j) {k : Kind} {q : ℕ} (ek : k ≡ sendKind s) (eq : q ≡ sendAt s j) where
-  pub first-queue : HasQueue s m i k q
-  first-queue = rw (ek, eq) (record { lent = g .lent; queue = g .queue })
-
   pub first-some : 0 < items k (node s m i) q
   first-some = let z : 0 < items (sendKind s) (node s m i) (sendAt s j) = omega (arith, g .some, length-contents (sendKind s) (node s m i) (sendAt s j) (g .queue)) in rw eq z
-
-  pub first-item : {r : ℕ} → r ≡ itemAt k (node s m i) q 0 → r ≡ firstOf s j m i
-  first-item e = e ∙ rw (ek, eq) (contents-item (sendKind s) (node s m i) (sendAt s j) (g .queue) 0 (omega (arith, g .queue .placed .some)))
 
   pub first-dropped : {m₁ : List ℕ} → m₁ ≡ withNode s m i (dropped k (node s m i) q) → m₁ ≡ sendDropped s j m i
   first-dropped e = e ∙ rw (ek, eq)

@@ -25,7 +25,8 @@ use Rattle.postman.specs.declared.Round.{Round}
 use Rattle.postman.specs.Position.{atRest}
 use Rattle.postman.specs.Asked.{SoundAt, Owes}
 use Rattle.stages_keep.specs.Steps.{collected}
-use Rattle.stages.specs.Asked.{Lent, Begins, HasQueue, MayReturn, GaveBack}
+use Rattle.lending.specs.Asked.{Lent, Begins, HasQueue, MayReturn}
+use Rattle.stages.specs.Asked.{GaveBack}
 use Rattle.stages.proofs.Stood.{stood-sized, stood-lent, stood-stretch, stood-ack, stood-away, stood-acked}
 use Rattle.stages.proofs.Copying.{needs-some, with-sized}
 

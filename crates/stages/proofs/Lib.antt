@@ -1,4 +1,3 @@
-pub mod Lent
 pub mod Stood
 pub mod Copying
 pub mod Putting

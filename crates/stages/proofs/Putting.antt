@@ -1,20 +1,14 @@
--- Stages 2 and 3: the queue for a letter, and what an append leaves. Assumes nothing.
-use mathlib.Core.Path.{_≡_, refl, sym, ap, ap₂, _∙_}
-use mathlib.Core.Bool.{true, false, false≢true}
+-- Stages 2 and 3: what an append leaves. Assumes nothing.
+use mathlib.Core.Path.{_≡_, refl, ap, ap₂, _∙_}
 use mathlib.Core.List.{List}
 use Prim.Native.Nat.{ℕ, _≤_, _<_}
 use native.Mathlib.Omega.{arith}
-use lib.Dec.{eqb}
 use lib.ListN.{length, getD}
-use Rattle.words.proofs.Lists.{and-true}
 use Rattle.settings.specs.declared.Settings.{Settings}
 use Rattle.settings.specs.Range.{InRange}
-use Rattle.layout.specs.Places.{ackAt, taskAt, node, withNode}
-use Rattle.layout.specs.Numbers.{sourceTaskWord, sourceNodeWord, destinationTaskWord}
-use Rattle.tasks.specs.Table.{nodeOf, queueOf, isBound}
-use Rattle.tasks.specs.Seat.{seatOf}
-use Rattle.tasks.specs.declared.Seat.the-variants.{At, Unbound}
-use Rattle.tasks.proofs.Laws.{told-at, told-unbound, seat-below}
+use Rattle.layout.specs.Places.{ackAt, node, withNode}
+use Rattle.layout.specs.Numbers.{destinationTaskWord}
+use Rattle.tasks.specs.Table.{queueOf}
 use Rattle.queues.specs.declared.Kind.{Kind}
 use Rattle.queues.specs.declared.Appended.{Appended}
 use Rattle.queues.specs.declared.Appended.the-variants.{Full as Appended-full}
@@ -22,7 +16,7 @@ use Rattle.queues.specs.Queue.{ackKind}
 use Rattle.queues.specs.Moves.{appended, appendAnswer}
 use Rattle.gaps.specs.Close.{taskAppended, taskAnswer}
 use Rattle.sound.specs.Reading.{tableIn, sendItems}
-use Rattle.sound.specs.Letters.{wordsFrom, rightHeader}
+use Rattle.sound.specs.Letters.{wordsFrom}
 use Rattle.postman.specs.declared.Stage.{Stage}
 use Rattle.postman.specs.declared.Stage.the-variants.{Stopped}
 use Rattle.postman.specs.Position.{at}
@@ -30,40 +24,13 @@ use Rattle.postman.specs.Round.{did}
 use Rattle.postman.specs.Asked.{SoundAt}
 use Rattle.stages_keep.specs.Steps.{onAppend, firstOf, queueFor, queued, acknowledged}
 use Rattle.stages_keep.proofs.Laws.{names-in, names-waits}
-use Rattle.stages.specs.Asked.{Addressed, HasQueue, HasTaskQueue, HasFirst, Holds}
+use Rattle.lending.specs.Asked.{Addressed, HasQueue, HasTaskQueue, HasFirst}
+use Rattle.lending.proofs.Queues.{queue-small}
+use Rattle.stages.specs.Asked.{Holds}
 use Rattle.stages.proofs.Stood.{stood-lent, stood-sized, stood-table, stood-send, stood-ack, stood-task, stood-held}
 
 pub append-full : (a : Appended) (n : ℕ) → a ≡ Appended-full → Stopped n ≡ onAppend a n
 append-full a n e = rw e
-
--- ---- the queue for a letter
-module _ (s : Settings) (m : List ℕ) (j c : ℕ) (a : Addressed s m j c) where
-  abbrev ws : List ℕ
-  ws = wordsFrom s (node s m j) c
-
-  bound : isBound (tableIn m) (getD ws destinationTaskWord 0) ≡ true
-  unfolding rightHeader
-  bound =
-      let d = and-true (isBound (tableIn m) (getD ws sourceTaskWord 0)) _ (a .header) in
-      let e = and-true (eqb (nodeOf (tableIn m) (getD ws sourceTaskWord 0)) (getD ws sourceNodeWord 0)) _ (d .1) in
-      and-true (isBound (tableIn m) (getD ws destinationTaskWord 0)) _ (e .1) .0
-
-  pub queue-small : queueOf (tableIn m) (getD ws destinationTaskWord 0) < 64
-  queue-small = seat-below (tableIn m) (getD ws destinationTaskWord 0) (a .table) bound .1
-
-  module _ {task : ℕ} (et : task ≡ getD ws destinationTaskWord 0) where
-    pub never-unbound : seatOf (tableIn m) task ≡ Unbound → ⊥
-    never-unbound e = let f = told-unbound (tableIn m) (getD ws destinationTaskWord 0) (rw et at e) in false≢true (sym f ∙ bound)
-
-    module _ (i q : ℕ) (e : seatOf (tableIn m) task ≡ At i q) where
-      queue-is : q ≡ queueOf (tableIn m) (getD ws destinationTaskWord 0)
-      queue-is = told-at (tableIn m) (getD ws destinationTaskWord 0) i q (rw et at e) .1 .1
-
-      pub seat-small : q < 64
-      seat-small = omega (arith, queue-is, queue-small)
-
-      pub seat-queue : {r : ℕ} → r ≡ taskAt s q → r ≡ queueFor s j m c
-      seat-queue f = f ∙ ap (taskAt s) queue-is
 
 -- ---- stage 2
 module _ (s : Settings) (m : List ℕ) (j c : ℕ) (h : Holds s m j c) where

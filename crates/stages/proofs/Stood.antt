@@ -31,7 +31,7 @@ use Rattle.postman.specs.declared.Position.{Position}
 use Rattle.postman.specs.Position.{standing, at}
 use Rattle.postman.specs.Asked.{SoundAt}
 use Rattle.stages_keep.proofs.Standing.{stand-node, stand-table, stand-settings, stand-length, stand-stage, stand-held}
-use Rattle.stages.specs.Asked.{Lent}
+use Rattle.lending.specs.Asked.{Lent}
 
 -- ---- more of what a sound memory gives
 module _ (m : List ℕ) (e : sound m ≡ true) (i : ℕ) (h : i < 6) where

@@ -3,7 +3,7 @@ use mathlib.Core.List.{List}
 use mathlib.Core.Path.{ap, _∙_}
 use Prim.Native.Nat.{ℕ}
 use borrow.Author.Needs.{needs}
-use Rattle.stages.proofs.Lent.{lent-as, lent-part}
+use Rattle.lending.proofs.Lent.{lent-as, lent-part}
 use Rattle.queues.specs.Queue.{Queue, items}
 use Rattle.carrying.proofs.count_in.Statement.{statement}
 use Rattle.carrying.proofs.count_in.Tie as tie

@@ -1,6 +1,7 @@
 -- `stages::drop_send` meets its contract. Assumes nothing.
 use borrow.Author.Needs.{needs}
-use Rattle.stages.proofs.Copying.{first-queue, first-some, first-dropped}
+use Rattle.lending.proofs.Queues.{first-queue}
+use Rattle.stages.proofs.Copying.{first-some, first-dropped}
 use Rattle.stages.proofs.drop_send.Statement.{statement}
 use Rattle.stages.proofs.drop_send.Tie as tie
 

@@ -1,13 +1,13 @@
--- `stages::take_space` meets its contract. Assumes nothing.
+-- `lending::take_space` meets its contract. Assumes nothing.
 use mathlib.Core.List.{List}
 use mathlib.Core.Path.{ap, _∙_}
 use Prim.Native.Nat.{ℕ}
 use borrow.Author.Needs.{needs}
 use Rattle.blocks.specs.Moves.{taken, takenAnswer}
 use Rattle.blocks.specs.Asked.{Takes}
-use Rattle.stages.proofs.Lent.{lent-part, lent-as, lent-back}
-use Rattle.stages.proofs.take_space.Statement.{statement}
-use Rattle.stages.proofs.take_space.Tie as tie
+use Rattle.lending.proofs.Lent.{lent-part, lent-as, lent-back}
+use Rattle.lending.proofs.take_space.Statement.{statement}
+use Rattle.lending.proofs.take_space.Tie as tie
 
 take-requires : tie.Need-take-requires
 take-requires c κs = let x = c .before .before .before .before in lent-as (x .args .s) (x .args .memory .now) (x .args .j) (c .before .node-at .ensures .is) (c .before .before .node-size .ensures .is) (λ (l : List ℕ). Takes (x .args .s) l (x .args .n)) (x .pre .takes)

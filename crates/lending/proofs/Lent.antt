@@ -17,7 +17,7 @@ use Rattle.letters.specs.Asked.{Lies}
 use Rattle.letters.proofs.Copies.{node-stretch}
 use Rattle.sound.specs.Letters.{toldLength, wordsFrom}
 use Rattle.sound.proofs.Right.{right-least, right-most, right-lies, right-word, right-told}
-use Rattle.stages.specs.Asked.{Lent, Begins}
+use Rattle.lending.specs.Asked.{Lent, Begins}
 
 -- ---- the part that is lent is node i's stretch, and comes back into the memory
 module _ (s : Settings) (m : List ℕ) (i : ℕ) {a n : ℕ} (ea : a ≡ nodeAt s i) (en : n ≡ nodeSize s) where

@@ -1,13 +1,13 @@
--- `stages::append_in` meets its contract. Assumes nothing.
+-- `lending::append_in` meets its contract. Assumes nothing.
 use mathlib.Core.List.{List}
 use mathlib.Core.Path.{ap, _∙_}
 use Prim.Native.Nat.{ℕ}
 use borrow.Author.Needs.{needs}
 use Rattle.queues.specs.Moves.{appended, appendAnswer}
 use Rattle.queues.specs.Queue.{Queue}
-use Rattle.stages.proofs.Lent.{lent-part, lent-as, lent-back}
-use Rattle.stages.proofs.append_in.Statement.{statement}
-use Rattle.stages.proofs.append_in.Tie as tie
+use Rattle.lending.proofs.Lent.{lent-part, lent-as, lent-back}
+use Rattle.lending.proofs.append_in.Statement.{statement}
+use Rattle.lending.proofs.append_in.Tie as tie
 
 append-requires : tie.Need-append-requires
 append-requires c κs = let x = c .before .before .before .before in lent-as (x .args .s) (x .args .memory .now) (x .args .i) (c .before .node-at .ensures .is) (c .before .before .node-size .ensures .is) (λ (l : List ℕ). Queue (x .args .k) l (x .args .q)) (x .pre .queue)

@@ -1,13 +1,13 @@
--- `stages::drop_in` meets its contract. Assumes nothing.
+-- `lending::drop_in` meets its contract. Assumes nothing.
 use mathlib.Core.List.{List}
 use mathlib.Core.Path.{ap, _∙_}
 use Prim.Native.Nat.{ℕ, _<_}
 use borrow.Author.Needs.{needs}
 use Rattle.queues.specs.Moves.{dropped}
 use Rattle.queues.specs.Queue.{Queue, items, itemAt}
-use Rattle.stages.proofs.Lent.{lent-part, lent-as, lent-back}
-use Rattle.stages.proofs.drop_in.Statement.{statement}
-use Rattle.stages.proofs.drop_in.Tie as tie
+use Rattle.lending.proofs.Lent.{lent-part, lent-as, lent-back}
+use Rattle.lending.proofs.drop_in.Statement.{statement}
+use Rattle.lending.proofs.drop_in.Tie as tie
 
 drop-first-requires : tie.Need-drop-first-requires
 drop-first-requires c κs = let x = c .before .before .before .before in lent-as (x .args .s) (x .args .memory .now) (x .args .i) (c .before .node-at .ensures .is) (c .before .before .node-size .ensures .is) (λ (l : List ℕ). Queue (x .args .k) l (x .args .q) × (0 < items (x .args .k) l (x .args .q))) (x .pre .0 .queue, x .pre .1)

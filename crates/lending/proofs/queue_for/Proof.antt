@@ -1,11 +1,11 @@
--- `stages::queue_for` meets its contract. Assumes nothing.
+-- `lending::queue_for` meets its contract. Assumes nothing.
 use mathlib.Core.Path.{sym, _∙_}
 use native.Mathlib.Omega.{arith}
 use borrow.Author.Needs.{needs}
-use Rattle.stages.proofs.Putting.{never-unbound, seat-small, seat-queue}
-use Rattle.stages.proofs.Lent.{lent-front}
-use Rattle.stages.proofs.queue_for.Statement.{statement}
-use Rattle.stages.proofs.queue_for.Tie as tie
+use Rattle.lending.proofs.Queues.{never-unbound, seat-small, seat-queue}
+use Rattle.lending.proofs.Lent.{lent-front}
+use Rattle.lending.proofs.queue_for.Statement.{statement}
+use Rattle.lending.proofs.queue_for.Tie as tie
 
 part-seat-of-end : tie.Need-part-seat-of-end
 part-seat-of-end c = let x = c .before .before in omega (arith, lent-front (x .args .s) (x .args .memory .now) (x .args .j) (x .pre .begins .lent))

@@ -1,8 +1,8 @@
--- `stages::first_of` meets its contract. Assumes nothing.
+-- `lending::first_of` meets its contract. Assumes nothing.
 use borrow.Author.Needs.{needs}
-use Rattle.stages.proofs.Copying.{first-queue, first-item}
-use Rattle.stages.proofs.first_of.Statement.{statement}
-use Rattle.stages.proofs.first_of.Tie as tie
+use Rattle.lending.proofs.Queues.{first-queue, first-item}
+use Rattle.lending.proofs.first_of.Statement.{statement}
+use Rattle.lending.proofs.first_of.Tie as tie
 
 first-in-requires : tie.Need-first-in-requires
 first-in-requires c κs = let x = c .before .before .before in first-queue (x .args .s) (x .args .memory .now) (x .args .i) (x .args .j) (x .pre) (c .send-kind .ensures) (c .before .send-at .ensures .is)

@@ -1,13 +1,13 @@
--- `stages::word_in` meets its contract. Assumes nothing.
+-- `lending::word_in` meets its contract. Assumes nothing.
 use mathlib.Core.List.{List}
 use mathlib.Core.Path.{ap, _∙_}
 use Prim.Native.Nat.{_+_, ℕ}
 use borrow.Author.Needs.{needs}
 use Rattle.letters.specs.Letter.{word}
 use Rattle.letters.specs.Asked.{Lies}
-use Rattle.stages.proofs.Lent.{lent-part, lent-as, begins-lies, begins-word}
-use Rattle.stages.proofs.word_in.Statement.{statement}
-use Rattle.stages.proofs.word_in.Tie as tie
+use Rattle.lending.proofs.Lent.{lent-part, lent-as, begins-lies, begins-word}
+use Rattle.lending.proofs.word_in.Statement.{statement}
+use Rattle.lending.proofs.word_in.Tie as tie
 
 word-of-requires : tie.Need-word-of-requires
 word-of-requires c κs = let x = c .before .before .before .before in lent-as (x .args .s) (x .args .memory .now) (x .args .i) (c .before .before .node-at .ensures .is) (c .before .node-size .ensures .is) (λ (l : List ℕ). Lies (x .args .s) l (x .args .k + 1) (x .args .b)) (begins-lies (x .args .s) (x .args .memory .now) (x .args .i) (x .args .b) (x .pre .0) (x .args .k) (x .pre .1))

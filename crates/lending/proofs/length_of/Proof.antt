@@ -1,9 +1,9 @@
--- `stages::length_of` meets its contract. Assumes nothing.
+-- `lending::length_of` meets its contract. Assumes nothing.
 use mathlib.Core.Path.{_∙_}
 use borrow.Author.Needs.{needs}
-use Rattle.stages.proofs.Lent.{begins-told}
-use Rattle.stages.proofs.length_of.Statement.{statement}
-use Rattle.stages.proofs.length_of.Tie as tie
+use Rattle.lending.proofs.Lent.{begins-told}
+use Rattle.lending.proofs.length_of.Statement.{statement}
+use Rattle.lending.proofs.length_of.Tie as tie
 
 returns : tie.Need-returns
 returns c = let x = c .before .before in c .word-in .ensures ∙ begins-told (x .args .s) (x .args .memory .now) (x .args .i) (x .args .b) (x .pre)

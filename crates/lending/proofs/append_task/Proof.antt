@@ -1,13 +1,13 @@
--- `stages::append_task` meets its contract. Assumes nothing.
+-- `lending::append_task` meets its contract. Assumes nothing.
 use mathlib.Core.List.{List}
 use mathlib.Core.Path.{ap, _∙_}
 use Prim.Native.Nat.{ℕ}
 use borrow.Author.Needs.{needs}
 use Rattle.gaps.specs.Close.{taskAppended, taskAnswer}
 use Rattle.queues.specs.Queue.{Queue, taskKind}
-use Rattle.stages.proofs.Lent.{lent-part, lent-as, lent-back}
-use Rattle.stages.proofs.append_task.Statement.{statement}
-use Rattle.stages.proofs.append_task.Tie as tie
+use Rattle.lending.proofs.Lent.{lent-part, lent-as, lent-back}
+use Rattle.lending.proofs.append_task.Statement.{statement}
+use Rattle.lending.proofs.append_task.Tie as tie
 
 append-requires : tie.Need-append-requires
 append-requires c κs = let x = c .before .before .before .before in lent-as (x .args .s) (x .args .memory .now) (x .args .i) (c .before .node-at .ensures .is) (c .before .before .node-size .ensures .is) (λ (l : List ℕ). Queue (taskKind (x .args .s)) l (x .args .q)) (x .pre .queue)

@@ -1,12 +1,12 @@
--- `stages::count_room` meets its contract. Assumes nothing.
+-- `lending::count_room` meets its contract. Assumes nothing.
 use mathlib.Core.List.{List}
 use Prim.Native.Nat.{ℕ, _<_}
 use lib.ListN.{length}
 use borrow.Author.Needs.{needs}
 use Rattle.queues.specs.Moves.{counted}
-use Rattle.stages.proofs.Lent.{lent-as, lent-back, lent-head}
-use Rattle.stages.proofs.count_room.Statement.{statement}
-use Rattle.stages.proofs.count_room.Tie as tie
+use Rattle.lending.proofs.Lent.{lent-as, lent-back, lent-head}
+use Rattle.lending.proofs.count_room.Statement.{statement}
+use Rattle.lending.proofs.count_room.Tie as tie
 
 count-up-requires : tie.Need-count-up-requires
 count-up-requires c κs = let x = c .before .before .before .before in lent-as (x .args .s) (x .args .memory .now) (x .args .j) (c .before .node-at .ensures .is) (c .before .before .node-size .ensures .is) (λ (l : List ℕ). 1 < length l) (lent-head (x .args .s) (x .args .memory .now) (x .args .j) (x .pre))
