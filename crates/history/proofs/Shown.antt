@@ -21,9 +21,9 @@ use Rattle.sound.specs.Blocks.{begun}
 use Rattle.sound.specs.Sound.{sound}
 use Rattle.sound.proofs.Gives.{gives-table, gives-range}
 use Rattle.sound.proofs.Held.{gives-at, right-parts}
-use Rattle.listing.specs.declared.Shown.{Shown}
+use Rattle.showing.specs.declared.Shown.{Shown}
 use Rattle.listing.specs.declared.Listed.the-variants.{Done, OutTooShort}
-use Rattle.listing.specs.List.{handedOver, shown, fromTask, fromSend, waiting, fromNodes, ofTask, ofTasks, listed, laidOut}
+use Rattle.showing.specs.List.{handedOver, shown, fromTask, fromSend, waiting, fromNodes, ofTask, ofTasks, listed, laidOut}
 use Rattle.listing.specs.Outcome.{list}
 use Rattle.machine.specs.Machine.{first, wordsOf}
 use Rattle.machine.specs.Spelled.{letterFrom, nodeFrom, machineOf}

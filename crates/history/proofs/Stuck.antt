@@ -38,7 +38,7 @@ use Rattle.turn.specs.declared.Turned.the-variants.{Finished, Stopped as Turned
 use Rattle.turn.specs.Outcome.{answered, taken, turn}
 use Rattle.listing.specs.declared.Listed.{Listed}
 use Rattle.listing.specs.declared.Listed.the-variants.{Done as Listed-done, NotSound as Listed-not-sound, OutTooShort}
-use Rattle.listing.specs.List.{listed}
+use Rattle.showing.specs.List.{listed}
 use Rattle.listing.specs.Outcome.{list}
 use Rattle.history.specs.Demand.{NeverStuck, Room}
 

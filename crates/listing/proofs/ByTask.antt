@@ -16,12 +16,12 @@ use Rattle.tasks.proofs.Laws.{seat-below}
 use Rattle.queues.specs.declared.Kind.{Kind}
 use Rattle.queues.specs.Queue.{sendKind, items, itemAt, run}
 use Rattle.sound.specs.Reading.{tableIn}
-use Rattle.listing.specs.declared.Shown.{Shown}
-use Rattle.listing.specs.List.{wordIn, shown, handedOver, fromTask, fromSend, waiting, fromNodes, ofTask, ofTasks}
-use Rattle.listing.specs.Asked.{Asked, keptOf, keptBelow, sentFrom, sentBelow, forTask}
-use Rattle.listing.proofs.Given.{named-id, asked-table, asked-named}
-use Rattle.listing.proofs.Letters.{waiting-run}
-use Rattle.listing.proofs.Placing.{for-append}
+use Rattle.showing.specs.declared.Shown.{Shown}
+use Rattle.showing.specs.List.{wordIn, shown, handedOver, fromTask, fromSend, waiting, fromNodes, ofTask, ofTasks}
+use Rattle.showing.proofs.Waiting.{waiting-run}
+use Rattle.counting.specs.Asked.{Asked, keptOf, keptBelow, sentFrom, sentBelow, forTask}
+use Rattle.counting.proofs.Given.{named-id, asked-table, asked-named}
+use Rattle.counting.proofs.Placing.{for-append}
 use Rattle.listing.proofs.Spread.{Ids, sorted}
 
 pub ids-append : (xs ys : List Shown) → Ids xs → Ids ys → Ids (xs ++ ys)

@@ -1,14 +1,7 @@
-pub mod Laying
-pub mod Placing
+pub mod Laid
+pub mod Kept
 pub mod Spread
-pub mod Letters
-pub mod Given
-pub mod Heads
-pub mod Few
 pub mod ByTask
-pub mod Noting
 pub mod Rooms
-pub mod Adding
 pub mod Outcomes
-pub mod Examples
 pub mod Refused

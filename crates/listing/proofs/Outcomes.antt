@@ -15,16 +15,17 @@ use Rattle.layout.specs.Numbers.{listWords}
 use Rattle.letters.specs.Letter.{onto}
 use Rattle.sound.specs.Reading.{settingsIn}
 use Rattle.sound.specs.Sound.{sound}
-use Rattle.listing.specs.declared.Shown.{Shown}
+use Rattle.showing.specs.declared.Shown.{Shown}
+use Rattle.showing.specs.List.{ofTask, ofTasks, listed, laidOut}
+use Rattle.counting.specs.Asked.{Asked, Rows, placed, Low, keptBelow, sentBelow, numbers, Ranked, forTask}
+use Rattle.counting.proofs.Given.{asked-long}
+use Rattle.counting.proofs.Few.{few-below, few-tasks}
+use Rattle.counting.proofs.Placing.{rows, placed-append, so-low, so-ranked, so-rank}
+use Rattle.counting.proofs.Adding.{sum-suc, sum-most}
 use Rattle.listing.specs.declared.Listed.{Listed}
 use Rattle.listing.specs.declared.Listed.the-variants.{Done, OutTooShort}
-use Rattle.listing.specs.List.{ofTask, ofTasks, listed, laidOut}
-use Rattle.listing.specs.Asked.{Asked, Rows, placed, Low, keptBelow, sentBelow, numbers, Ranked, forTask, Room}
+use Rattle.listing.specs.Asked.{Room}
 use Rattle.listing.specs.Outcome.{Outcome, list}
-use Rattle.listing.proofs.Given.{asked-long}
-use Rattle.listing.proofs.Few.{few-below, few-tasks}
-use Rattle.listing.proofs.Placing.{rows, placed-append, so-low, so-ranked, so-rank}
-use Rattle.listing.proofs.Adding.{sum-suc, sum-most}
 use Rattle.listing.proofs.Rooms.{room-first, room-rest}
 use Rattle.listing.proofs.Spread.{sorted, spread, spread-none, all-stand}
 use Rattle.listing.proofs.ByTask.{every-letter, by-task, sorted-tasks, ids-all}

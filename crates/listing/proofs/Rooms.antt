@@ -9,18 +9,19 @@ use lib.ListN.{length, getD, length-append}
 use borrow.Author.Tests.{eq-eqb, ne-eqb}
 use Rattle.words.proofs.Lists.{le-or-lt}
 use Rattle.settings.specs.declared.Settings.{Settings}
-use Rattle.layout.specs.Places.{nodes, taskIds, node}
+use Rattle.layout.specs.Places.{nodes, taskIds}
 use Rattle.layout.specs.Numbers.{listWords, destinationTaskWord}
 use Rattle.queues.specs.declared.Kind.{Kind}
 use Rattle.queues.specs.Queue.{itemAt, run}
 use Rattle.queues.specs.Items.{live}
 use Rattle.queues.proofs.Items.{live-append}
 use Rattle.queues.proofs.Ring.{run-more}
-use Rattle.listing.specs.declared.Shown.{Shown}
-use Rattle.listing.specs.List.{wordIn, shown, waiting}
-use Rattle.listing.specs.Asked.{placed, forTask, Room, Noted, keptOf, keptIn, keptBelow, sentFrom, sentBelow}
-use Rattle.listing.proofs.Placing.{rows, for-append, so-long, so-rank}
-use Rattle.listing.proofs.Letters.{run-one, sent-append}
+use Rattle.showing.specs.declared.Shown.{Shown}
+use Rattle.showing.specs.List.{wordIn, shown, waiting}
+use Rattle.counting.specs.Asked.{placed, forTask, Noted, keptOf, keptIn, keptBelow, sentFrom, sentBelow}
+use Rattle.counting.proofs.Placing.{rows, for-append, so-long, so-rank}
+use Rattle.counting.proofs.Letters.{run-one, sent-append}
+use Rattle.listing.specs.Asked.{Room}
 use Rattle.listing.proofs.ByTask.{own-kept}
 
 -- ---- letters behind letters

@@ -12,11 +12,11 @@ use Rattle.words.proofs.Lists.{same?, le-or-lt}
 use Rattle.layout.specs.Places.{taskIds}
 use Rattle.layout.specs.Numbers.{listWords}
 use Rattle.letters.specs.Letter.{onto}
-use Rattle.listing.specs.declared.Shown.{Shown}
-use Rattle.listing.specs.List.{laidOut}
-use Rattle.listing.specs.Asked.{Rows, placed, forTask}
-use Rattle.listing.proofs.Laying.{laid-append, length-laid, letter-room}
-use Rattle.listing.proofs.Placing.{rows, place, for-append}
+use Rattle.showing.specs.declared.Shown.{Shown}
+use Rattle.showing.specs.List.{laidOut}
+use Rattle.counting.specs.Asked.{Rows, placed, forTask}
+use Rattle.counting.proofs.Placing.{rows, place, for-append}
+use Rattle.listing.proofs.Laid.{laid-append, length-laid, letter-room}
 
 -- ---- a word of a list after a run of stores
 pub sets-below : (l : List ℕ) (a : ℕ) (p : List ℕ) (k : ℕ) → k < a → getD (sets l a p) k 0 ≡ getD l k 0

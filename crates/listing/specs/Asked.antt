@@ -1,119 +1,18 @@
--- What the functions of list ask for, and what they leave in out.
+-- What the functions that lay letters ask for, and what they leave in out.
 use mathlib.Core.Path.{_≡_}
-use mathlib.Core.Bool.{true, cond}
-use mathlib.Core.List.{List, [], _∷_, _++_}
-use Prim.Native.Nat.{ℕ, zero, suc, _+_, _*_, _/_, _%_, _≤_, _<_}
-use lib.Dec.{eqb, leb}
-use lib.ListN.{length, getD, set}
-use lib.Seq.{sets}
-use Rattle.words.specs.Count.{sum}
-use Rattle.settings.specs.declared.Settings.{Settings}
-use Rattle.layout.specs.Places.{nodes, taskIds, node}
-use Rattle.layout.specs.Numbers.{listWords, destinationTaskWord}
-use Rattle.layout.specs.Asked.{Sized}
-use Rattle.tasks.specs.Table.{nodeOf, queueOf, isBound}
-use Rattle.queues.specs.Items.{live}
-use Rattle.sound.specs.Reading.{settingsIn, tableIn, taskItems}
-use Rattle.sound.specs.Letters.{endsWell, rightLength}
-use Rattle.sound.specs.Sound.{sound}
-use Rattle.listing.specs.declared.Shown.{Shown}
-use Rattle.listing.specs.List.{laidOut, wordIn, shown, fromTask, waiting}
-
--- a sound memory, and its settings
-pub record Asked (s : Settings) (memory : List ℕ) : Type 0 where
-  pub holds : sound memory ≡ true
-  pub is : s ≡ settingsIn memory
-
--- block b begins a letter in node i: 'a valid length, the blocks it needs' (A sound memory)
-pub record Begins (s : Settings) (memory : List ℕ) (i b : ℕ) : Type 0 where
-  pub sized : Sized s memory
-  pub there : i < nodes
-  pub ends : endsWell s (node s memory i) b ≡ true
-  pub long : rightLength s (node s memory i) b ≡ true
-
--- n letters are few enough that as many more can be counted: the number of letters is one word of an answer
-abbrev pub Few : ℕ → ℕ → Type 0
-Few n more = n + more ≤ 4294967295
-
--- letters laid behind the n letters that stand in out, one behind the other; a letter that out has no room for is not laid
-unfoldable pub laidIn : List Shown → ℕ → List ℕ → List ℕ
-laidIn [] n out = out
-laidIn (x ∷ xs) n out = laidIn xs (n + 1) (cond (leb (n * listWords + listWords) (length out)) (sets out (n * listWords) (laidOut (x ∷ []))) out)
+use mathlib.Core.List.{List}
+use Prim.Native.Nat.{ℕ, _+_, _*_, _≤_, _<_}
+use lib.ListN.{length, getD}
+use Rattle.layout.specs.Places.{taskIds}
+use Rattle.layout.specs.Numbers.{listWords}
+use Rattle.showing.specs.declared.Shown.{Shown}
+use Rattle.counting.specs.Asked.{laidIn, forTask}
 
 -- behind the n letters that stand in out the letters xs are laid, which makes r letters
 pub record Laid (xs : List Shown) (n : ℕ) (out : List ℕ) (r : ℕ) (left : List ℕ) : Type 0 where
   pub count : r ≡ n + length xs
   pub words : left ≡ laidIn xs n out
 
--- each task's rank, which is the number of letters that come before its next one, and out
-pub record Rows : Type 0 where
-  pub ranks : List ℕ
-  pub out : List ℕ
-
--- letters laid in the order given, each at its task's rank, which rises by one
-unfoldable pub placed : List Shown → Rows → Rows
-placed [] r = r
-placed (x ∷ xs) r =
-    placed xs
-    (record {
-      ranks = set (r .ranks) (x .destination) (getD (r .ranks) (x .destination) 0 + 1);
-      out = laidIn (x ∷ []) (getD (r .ranks) (x .destination) 0) (r .out);
-    })
-
--- there is a rank for each task, and each can rise by so many letters more
-pub record Low (ranks : List ℕ) (more : ℕ) : Type 0 where
-  pub long : length ranks ≡ taskIds
-  pub few : (t : ℕ) → Few (getD ranks t 0) more
-
--- of the letters those for task t, in their order
-abbrev pub forTask : ℕ → List Shown → List Shown
-forTask t [] = []
-forTask t (x ∷ xs) = cond (eqb (x .destination) t) (x ∷ forTask t xs) (forTask t xs)
-
 -- out has room for the letters, from each task's rank on
 pub record Room (xs : List Shown) (ranks out : List ℕ) : Type 0 where
   pub each : (t : ℕ) → t < taskIds → (getD ranks t 0 + length (forTask t xs)) * listWords ≤ length out
-
-module _ (s : Settings) (memory : List ℕ) where
-  -- the letters of a task's queue, first to last
-  unfoldable pub keptOf : ℕ → List Shown
-  keptOf task =
-      cond (isBound (tableIn memory) task)
-      (fromTask s memory task (nodeOf (tableIn memory) task) (live (taskItems s memory (nodeOf (tableIn memory) task) (queueOf (tableIn memory) task))))
-      []
-
-  -- those of the tasks below n
-  unfoldable pub keptBelow : ℕ → List Shown
-  keptBelow zero = []
-  keptBelow (suc n) = keptBelow n ++ keptOf n
-
-  -- the letters that wait in node j, each for the task that its header names
-  unfoldable pub sentFrom : ℕ → List ℕ → List Shown
-  sentFrom j [] = []
-  sentFrom j (b ∷ bs) = shown s memory (wordIn s memory j b destinationTaskWord) 2 j b ∷ sentFrom j bs
-
-  -- those of the first c send queues: for node 0 in nodes 0 to 5, then for node 1, and so on
-  unfoldable pub sentBelow : ℕ → List Shown
-  sentBelow zero = []
-  sentBelow (suc c) = sentBelow c ++ sentFrom (c % nodes) (waiting s memory (c / nodes) (c % nodes))
-
-  -- the letters of the queues of the first n tasks that a row notes
-  unfoldable pub keptIn : List ℕ → ℕ → List Shown
-  keptIn row zero = []
-  keptIn row (suc n) = keptIn row n ++ keptOf (getD row n 0)
-
--- the first n words of the row are tasks, and their queues have the letters of all tasks' queues
-pub record Noted (s : Settings) (memory row : List ℕ) (n : ℕ) : Type 0 where
-  pub few : n ≤ taskIds
-  pub each : (c : ℕ) → c < n → getD row c 0 < taskIds
-  pub all : keptIn s memory row n ≡ keptBelow s memory taskIds
-
--- a row's number for each task
-abbrev pub numbers : List ℕ → ℕ → ℕ
-numbers row task = getD row task 0
-
--- each task's rank is the number of letters of the tasks before it, and r that of all
-pub record Ranked (letters : ℕ → ℕ) (ranks : List ℕ) (r : ℕ) : Type 0 where
-  pub long : length ranks ≡ taskIds
-  pub each : (t : ℕ) → t < taskIds → getD ranks t 0 ≡ sum t letters
-  pub all : r ≡ sum taskIds letters

@@ -1,3 +1,2 @@
-pub mod List
 pub mod Asked
 pub mod Outcome

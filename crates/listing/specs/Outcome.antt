@@ -10,8 +10,8 @@ use Rattle.sound.specs.Reading.{settingsIn}
 use Rattle.sound.specs.Sound.{sound}
 use Rattle.answers.specs.declared.Answer.{Answer}
 use Rattle.answers.specs.Numbers.{bare, done, notSound, outShorterThanList}
-use Rattle.listing.specs.declared.Shown.{Shown}
-use Rattle.listing.specs.List.{listed, laidOut}
+use Rattle.showing.specs.declared.Shown.{Shown}
+use Rattle.showing.specs.List.{listed, laidOut}
 use Rattle.listing.specs.declared.Listed.{Listed}
 use Rattle.listing.specs.declared.Listed.the-variants.{Done, NotSound, OutTooShort}
 

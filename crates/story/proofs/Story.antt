@@ -36,7 +36,7 @@ use Rattle.postman.specs.Round.{stage, andThen, into}
 use Rattle.stages_keep.specs.Steps.{collected as collectedOne, collectedAll, collectedFrom, copiedIn, queued, acknowledged, handedOn, delivered as deliveredOn, carried, carriedAll, carriedFrom, clearsFirst, resumed, gone}
 use Rattle.turn.specs.declared.Turned.the-variants.{Finished, Stopped}
 use Rattle.turn.specs.Outcome.{taken as turnTaken}
-use Rattle.listing.specs.List.{handedOver, shown, fromTask, fromSend, waiting, fromNodes, ofTask, ofTasks, listed, laidOut}
+use Rattle.showing.specs.List.{handedOver, shown, fromTask, fromSend, waiting, fromNodes, ofTask, ofTasks, listed, laidOut}
 use Rattle.history.specs.Runs.{Sends, Receives, Turns, Past, afterCall, afterAll}
 use Rattle.history.proofs.History.{set-up-kept}
 use Rattle.story.specs.Run.{table, start, one, early, middle, late}

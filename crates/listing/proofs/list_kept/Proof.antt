@@ -1,6 +1,6 @@
 -- `listing::list_kept` meets its contract. Assumes nothing.
-use Rattle.listing.proofs.Letters.{kept-none, kept-one}
-use Rattle.listing.proofs.Laying.{laid-one}
+use Rattle.listing.proofs.Laid.{laid-one}
+use Rattle.listing.proofs.Kept.{kept-none, kept-one}
 use borrow.Author.Needs.{needs}
 use Rattle.listing.proofs.list_kept.Statement.{statement}
 use Rattle.listing.proofs.list_kept.Tie as tie

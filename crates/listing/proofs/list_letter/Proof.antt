@@ -6,9 +6,9 @@ use native.Mathlib.Omega.{arith}
 use lib.ListN.{length-set}
 use lib.Seq.{sets}
 use Rattle.layout.specs.Numbers.{listWords}
-use Rattle.listing.specs.declared.Shown.{Shown}
-use Rattle.listing.specs.List.{laidOut}
-use Rattle.listing.proofs.Laying.{six, letter-room}
+use Rattle.showing.specs.declared.Shown.{Shown}
+use Rattle.showing.specs.List.{laidOut}
+use Rattle.listing.proofs.Laid.{six, letter-room}
 use borrow.Author.Needs.{needs}
 use Rattle.listing.proofs.list_letter.Statement.{statement}
 use Rattle.listing.proofs.list_letter.Tie as tie

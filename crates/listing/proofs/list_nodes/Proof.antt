@@ -3,11 +3,11 @@ use mathlib.Core.Path.{_≡_}
 use Prim.Native.Nat.{_-_, _≤_}
 use native.Mathlib.Nat.{mod-lt, div-lt-iff-lt-mul}
 use native.Mathlib.Omega.{arith}
-use Rattle.listing.specs.Asked.{placed, sentBelow}
-use Rattle.listing.proofs.Few.{few-sent}
+use Rattle.counting.specs.Asked.{placed, sentBelow}
+use Rattle.counting.proofs.Few.{few-sent}
+use Rattle.counting.proofs.Letters.{queues-start, queues-more}
+use Rattle.counting.proofs.Placing.{rows, so-low, so-long}
 use Rattle.listing.proofs.Rooms.{room-queue}
-use Rattle.listing.proofs.Letters.{queues-start, queues-more}
-use Rattle.listing.proofs.Placing.{rows, so-low, so-long}
 use borrow.Author.Needs.{needs}
 use Rattle.listing.proofs.list_nodes.Statement.{statement}
 use Rattle.listing.proofs.list_nodes.Tie as tie

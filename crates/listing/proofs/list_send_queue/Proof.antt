@@ -6,23 +6,25 @@ use lib.ListN.{length, getD}
 use Rattle.queues.specs.Queue.{sendKind, items, run}
 use Rattle.layout.specs.Places.{taskIds, sendAt, node}
 use Rattle.layout.specs.Numbers.{listWords}
-use Rattle.listing.specs.Asked.{Begins, Few, placed, sentFrom}
-use Rattle.listing.proofs.Given.{asked-sized, asked-long, Read, read-place, read-item, send-queue, read-send, sent-begins, sent-named}
-use Rattle.listing.proofs.Few.{so-sent}
+use Rattle.showing.specs.Asked.{Begins}
+use Rattle.showing.proofs.Waiting.{waiting-run}
+use Rattle.counting.specs.Asked.{Few, placed, sentFrom}
+use Rattle.counting.proofs.Given.{asked-sized, asked-long, Read, read-place, read-item, send-queue, read-send, sent-begins, sent-named}
+use Rattle.counting.proofs.Few.{so-sent}
+use Rattle.counting.proofs.Letters.{sent-start, sent-more}
+use Rattle.counting.proofs.Placing.{rows, so-long}
 use Rattle.listing.proofs.Rooms.{room-letter}
-use Rattle.listing.proofs.Letters.{sent-start, sent-more, waiting-run}
-use Rattle.listing.proofs.Placing.{rows, so-long}
 use borrow.Author.Needs.{needs}
 use Rattle.listing.proofs.list_send_queue.Statement.{statement}
 use Rattle.listing.proofs.list_send_queue.Tie as tie
 use Rattle.listing.proofs.list_send_queue.Reads as reads
 use Rattle.listing.proofs.list_send_queue.Lts as lts
 use Rattle.layout.proofs.send_at.Reads as send-at-reads
-use Rattle.listing.proofs.count_in.Reads as count-in-reads
-use Rattle.listing.proofs.item_in.Reads as item-in-reads
-use Rattle.listing.proofs.left_out.Reads as left-out-reads
+use Rattle.showing.proofs.count_in.Reads as count-in-reads
+use Rattle.showing.proofs.item_in.Reads as item-in-reads
+use Rattle.showing.proofs.left_out.Reads as left-out-reads
 use Rattle.listing.proofs.list_letter.Reads as list-letter-reads
-use Rattle.listing.proofs.word_in.Reads as word-in-reads
+use Rattle.showing.proofs.word_in.Reads as word-in-reads
 use Rattle.queues.proofs.send_kind.Reads as send-kind-reads
 
 abbrev Inv-loop : tie.InvT-loop

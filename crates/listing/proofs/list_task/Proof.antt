@@ -2,10 +2,10 @@
 use mathlib.Core.Path.{refl, sym, _∙_}
 use native.Mathlib.Omega.{arith}
 use Rattle.tasks.proofs.Laws.{told-at, told-unbound}
-use Rattle.listing.proofs.Given.{asked-long, asked-table, told-seat}
-use Rattle.listing.proofs.Few.{some-kept, so-task}
+use Rattle.counting.proofs.Given.{asked-long, asked-table, told-seat}
+use Rattle.counting.proofs.Few.{some-kept}
+use Rattle.listing.proofs.Kept.{so-task, task-none, task-all}
 use Rattle.listing.proofs.Rooms.{room-task}
-use Rattle.listing.proofs.Letters.{task-none, task-all}
 use borrow.Author.Needs.{needs}
 use Rattle.listing.proofs.list_task.Statement.{statement}
 use Rattle.listing.proofs.list_task.Tie as tie

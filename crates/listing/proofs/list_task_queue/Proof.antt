@@ -7,22 +7,22 @@ use Rattle.queues.specs.Items.{live}
 use Rattle.queues.specs.Queue.{taskKind, items, run}
 use Rattle.layout.specs.Places.{taskAt, node}
 use Rattle.layout.specs.Numbers.{listWords}
-use Rattle.listing.specs.List.{fromTask}
+use Rattle.showing.specs.List.{fromTask}
+use Rattle.counting.proofs.Given.{asked-sized, Read, read-place, read-item, task-queue, read-task, kept-begins}
+use Rattle.counting.proofs.Few.{length-task}
 use Rattle.listing.specs.Asked.{Laid}
-use Rattle.listing.proofs.Given.{asked-sized, Read, read-place, read-item, task-queue, read-task, kept-begins}
-use Rattle.listing.proofs.Few.{length-task, so-kept}
+use Rattle.listing.proofs.Laid.{laid-length}
+use Rattle.listing.proofs.Kept.{so-kept, kept-start, kept-more}
 use Rattle.listing.proofs.Rooms.{room-item}
-use Rattle.listing.proofs.Letters.{kept-start, kept-more}
-use Rattle.listing.proofs.Laying.{laid-length}
 use borrow.Author.Needs.{needs}
 use Rattle.listing.proofs.list_task_queue.Statement.{statement}
 use Rattle.listing.proofs.list_task_queue.Tie as tie
 use Rattle.listing.proofs.list_task_queue.Reads as reads
 use Rattle.listing.proofs.list_task_queue.Lts as lts
 use Rattle.layout.proofs.task_at.Reads as task-at-reads
-use Rattle.listing.proofs.count_in.Reads as count-in-reads
-use Rattle.listing.proofs.start_in.Reads as start-in-reads
-use Rattle.listing.proofs.item_from.Reads as item-from-reads
+use Rattle.showing.proofs.count_in.Reads as count-in-reads
+use Rattle.showing.proofs.start_in.Reads as start-in-reads
+use Rattle.showing.proofs.item_from.Reads as item-from-reads
 use Rattle.listing.proofs.list_kept.Reads as list-kept-reads
 use Rattle.queues.proofs.task_kind.Reads as task-kind-reads
 

@@ -2,11 +2,11 @@
 use mathlib.Core.Path.{_≡_}
 use Prim.Native.Nat.{_-_, _≤_}
 use native.Mathlib.Omega.{arith}
-use Rattle.listing.specs.Asked.{placed, keptIn}
-use Rattle.listing.proofs.Noting.{few-in}
+use Rattle.counting.specs.Asked.{placed, keptIn}
+use Rattle.counting.proofs.Noting.{few-in}
+use Rattle.counting.proofs.Letters.{tasks-start, tasks-more}
+use Rattle.counting.proofs.Placing.{rows, so-low, so-long}
 use Rattle.listing.proofs.Rooms.{room-noted}
-use Rattle.listing.proofs.Letters.{tasks-start, tasks-more}
-use Rattle.listing.proofs.Placing.{rows, so-low, so-long}
 use borrow.Author.Needs.{needs}
 use Rattle.listing.proofs.list_tasks.Statement.{statement}
 use Rattle.listing.proofs.list_tasks.Tie as tie

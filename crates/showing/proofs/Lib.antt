@@ -1,0 +1,4 @@
+pub mod Given
+pub mod Heads
+pub mod Waiting
+pub mod Examples
