@@ -236,7 +236,7 @@ pub fn visit(node: &[u32], s: Settings, marks: &mut [u8], b: u32, owed: usize) -
 }
 
 // What is wrong with a length: 0 where a letter of `count` blocks may have n words and needs the blocks. No branch is taken, so that this
-// is joined with the rest.
+// is joined with the rest; a number less one that is greater goes round, so that one test tells too few blocks and too many.
 pub fn misfit(s: Settings, count: usize, n: u32) -> u32
     requires { ⌜ InRange s ⌝ }
     requires { ⌜ count ≤ 1024 ⌝ }
@@ -251,10 +251,7 @@ pub fn misfit(s: Settings, count: usize, n: u32) -> u32
     if 1024 < n {
         odd = 1;
     }
-    if carried < n as usize {
-        odd = 1;
-    }
-    if n as usize + room <= carried {
+    if room as u32 <= std::num::wrapping_sub_u32(carried as u32, n) {
         odd = 1;
     }
     odd

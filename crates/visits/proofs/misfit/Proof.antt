@@ -1,26 +1,50 @@
 -- `visits::misfit` meets its contract. Assumes nothing.
 use native.Mathlib.Omega.{arith}
 use mathlib.Core.Path.{refl, _∙_}
+use Prim.Native.Nat.{_-_, _*_}
 use mathlib.Core.Logic.{⊎-elim}
-use Rattle.visits.proofs.Read.{carried-small, fit-low, fit-high, fit-few, fit-many, fit-is}
+use Rattle.visits.proofs.Read.{carried-small, round-low, round-high, fit-low, fit-high, fit-few, fit-many, fit-is}
 use borrow.Author.Needs.{needs}
 use Rattle.visits.proofs.misfit.Statement.{statement}
 use Rattle.visits.proofs.misfit.Tie as tie
 
-sub-room : tie.Need-sub-room
-sub-room c = search needs
-
 mul-carried : tie.Need-mul-carried
 mul-carried c = let y = c .before in omega (arith, carried-small (y .args .s) (y .pre .0) (y .args .count) (y .pre .1))
 
-add-if4 : tie.Need-add-if4
-add-if4 c = search needs
+cast-wrapping-sub-u32 : tie.Need-cast-wrapping-sub-u32
+cast-wrapping-sub-u32 c = let y = c .before .before .before in omega (arith, carried-small (y .args .s) (y .pre .0) (y .args .count) (y .pre .1))
 
 returns : tie.Need-returns
-returns c = let x = c .before .before .before .before .before .args in fit-many (x .s) (x .count) (x .n) _ refl (c .if4 .taken)
+returns c =
+    let y = c .before .before .before .before .before in let x = y .args in
+    let w = c .before .wrapping-sub-u32 in
+    ⊎-elim
+    (λ h. fit-few (x .s) (x .count) (x .n) _ refl h)
+    (λ h. fit-many (x .s) (x .count) (x .n) _ refl h)
+    (round-high (x .count * (x .s .b - 1)) (x .n) (w .result) (x .s .b - 1) (carried-small (x .s) (y .pre .0) (x .count) (y .pre .1)) (w .ok) (omega arith) (w .ensures) (c .if3 .taken))
 
 returns-2 : tie.Need-returns-2
-returns-2 c = let x = c .before .before .before .before .before .args in ⊎-elim (λ w. fit-few (x .s) (x .count) (x .n) _ (w .1) (w .0 .taken)) (λ f. ⊎-elim (λ w. fit-high (x .s) (x .count) (x .n) _ (f .1 ∙ w .1) (w .0 .taken)) (λ h. ⊎-elim (λ w. fit-low (x .s) (x .count) (x .n) _ (f .1 ∙ h .1 ∙ w .1) (w .0 .taken)) (λ l. fit-is (x .s) (x .count) (x .n) _ (f .1 ∙ h .1 ∙ l .1) (l .0 .left) (h .0 .left) (f .0 .left) (c .if4 .left)) (c .before .before .before .if1 .came)) (c .before .before .if2 .came)) (c .before .if3 .came)
+returns-2 c =
+    let y = c .before .before .before .before .before in let x = y .args in
+    let w = c .before .wrapping-sub-u32 in
+    let b = y .pre .0 .b .high in
+    ⊎-elim
+    (λ v. fit-high (x .s) (x .count) (x .n) _ (v .1) (v .0 .taken))
+    (λ h. ⊎-elim
+    (λ v. fit-low (x .s) (x .count) (x .n) _ (h .1 ∙ v .1) (v .0 .taken))
+    (λ l. let r = round-low (x .count * (x .s .b - 1)) (x .n) (w .result) (x .s .b - 1) (carried-small (x .s) (y .pre .0) (x .count) (y .pre .1)) (w .ok) (omega arith) (w .ensures) (c .if3 .left) (omega arith) (h .0 .left) in
+    fit-is (x .s) (x .count) (x .n) _ (h .1 ∙ l .1) (l .0 .left) (h .0 .left) (r .0) (r .1))
+    (c .before .before .before .if1 .came))
+    (c .before .before .if2 .came)
 
 pub misfit-spec : {M : Type 1} → statement M
-misfit-spec = tie.close (tie.spec sub-room mul-carried add-if4 returns returns-2)
+misfit-spec =
+    tie.close
+    (tie.spec
+    (λ c. search needs)
+    mul-carried
+    (λ c. search needs)
+    cast-wrapping-sub-u32
+    (λ c κs. search needs)
+    returns
+    returns-2)
