@@ -1,5 +1,6 @@
 -- The items of a queue, looked at one after the other: what is left to look at, with which marks, and whether a gap was met. Assumes nothing.
 use mathlib.Core.Path.{_≡_, refl, sym, ap, _∙_}
+use mathlib.Core.Logic.{⊎-elim}
 use mathlib.Core.Bool.{Bool, true, false, _&&_, cond, false≢true}
 use mathlib.Core.List.{List, [], _∷_, _++_}
 use Prim.Native.Nat.{ℕ, suc, _+_, _%_, _≤_, _<_}
@@ -10,6 +11,7 @@ use lib.Dec.{eqb}
 use lib.ListN.{length, getD, drop, drop-of-length-le}
 use lib.Seq.{drop-cons}
 use borrow.Author.Tests.{eq-eqb, ne-eqb}
+use Rattle.words.proofs.Differences.{low-difference, high-difference}
 use Rattle.words.proofs.Lists.{same?}
 use Rattle.settings.specs.declared.Settings.{Settings}
 use Rattle.queues.specs.declared.Kind.{Kind}
@@ -94,13 +96,10 @@ module _ (s : Settings) (l t : List ℕ) (i p : ℕ) (xs : List ℕ) (old : List
 -- ---- the number below an item's, which goes round at 0: at least M where the item begins no letter
 module _ (m b less : ℕ) (small : m ≤ 1024) (fits : less < 4294967296) (wraps : (less + 1) % 4294967296 ≡ b) where
   pub less-low : less < m → (1 ≤ b) × (b ≤ m)
-  less-low h = let e : less + 1 ≡ b = sym (mod-eq-of-lt {n = less + 1} {m = 4294967296} (omega arith)) ∙ wraps in (omega arith, omega arith)
+  less-low h = let w = low-difference b 1 less m wraps h (omega arith) in (w .0, omega (arith, w .1))
 
   pub less-high : m ≤ less → (b ≡ 0 → ⊥) → m < b
-  less-high h n =
-      same? (less + 1) 4294967296
-      (λ e _. absurd (n (sym wraps ∙ ap (λ (x : ℕ). x % 4294967296) e ∙ mod-self 4294967296)))
-      (λ e _. let f : less + 1 ≡ b = sym (mod-eq-of-lt {n = less + 1} {m = 4294967296} (omega arith)) ∙ wraps in omega arith)
+  less-high h n = ⊎-elim (λ z. absurd (n (omega arith))) (λ z. omega arith) (high-difference b 1 less m wraps fits (omega arith) h)
 
 -- ---- the slots, gone over one after the other and round
 module _ (k : Kind) (q first j : ℕ) (some : 2 ≤ k .slots) where

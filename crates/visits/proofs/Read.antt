@@ -1,10 +1,10 @@
 -- A chain that ends well, and what may be read of the letter in it. Assumes nothing.
 use mathlib.Core.Path.{_≡_, sym, ap, _∙_}
-use mathlib.Core.Logic.{_⊎_, inl, inr, ⊎-elim}
+use mathlib.Core.Logic.{⊎-elim}
 use mathlib.Core.Bool.{Bool, true, false, _&&_}
 use mathlib.Core.List.{List, _∷_}
 use Prim.Native.Nat.{ℕ, suc, _+_, _-_, _*_, _/_, _%_, _≤_, _<_}
-use native.Mathlib.Nat.{suc-mul, mul-le-mul, mul-le-mul-right, div-add-mod', div-lt-iff-lt-mul, div-mul-le-self, mod-eq-of-lt, mod-eq-sub-mod}
+use native.Mathlib.Nat.{suc-mul, mul-le-mul, mul-le-mul-right, div-add-mod', div-lt-iff-lt-mul, div-mul-le-self}
 use native.Mathlib.Omega.{arith}
 use lib.Dec.{eqb, leb, ltb}
 use lib.ListN.{length, getD, List·getD-eq-default}
@@ -97,20 +97,6 @@ module _ (s : Settings) (n k odd : ℕ) where
 
   pub fit-is : odd ≡ 0 → 5 ≤ k → k ≤ 1024 → k ≤ n * (s .b - 1) → n * (s .b - 1) < k + (s .b - 1) → eqb odd 0 ≡ fitsLength s n k
   fit-is e h g f d = rw e (sym (lt-ltb (n * (s .b - 1)) (k + (s .b - 1)) d) ∙ fits-told s n k h g f)
-
--- ---- a number less one that is greater goes round: at least r where it does, and where it is by r or more the greater
-module _ (c k d r : ℕ) (low : c ≤ 65536) (fits : d < 4294967296) (word : k < 4294967296) (wraps : (d + k) % 4294967296 ≡ c) where
-  pub round-low : d < r → r ≤ 64 → k ≤ 1024 → (k ≤ c) × (c < k + r)
-  round-low h g f =
-      let e : d + k ≡ c = sym (mod-eq-of-lt {n = d + k} {m = 4294967296} (omega arith)) ∙ wraps in
-      (omega arith, omega arith)
-
-  pub round-high : r ≤ d → (c < k) ⊎ (k + r ≤ c)
-  round-high h =
-      ⊎-elim
-      (λ g. let e : d + k - 4294967296 ≡ c = sym (mod-eq-of-lt {n = d + k - 4294967296} {m = 4294967296} (omega arith)) ∙ sym (mod-eq-sub-mod g) ∙ wraps in inl (omega arith))
-      (λ g. let e : d + k ≡ c = sym (mod-eq-of-lt {n = d + k} {m = 4294967296} g) ∙ wraps in inr (omega arith))
-      (le-or-lt 4294967296 (d + k))
 
 needs-tight : (s : Settings) → InRange s → (k : ℕ) → needs s k * (s .b - 1) < k + (s .b - 1)
 unfolding needs

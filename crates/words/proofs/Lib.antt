@@ -5,3 +5,4 @@ pub mod Rows
 pub mod Count
 pub mod Over
 pub mod Bits
+pub mod Differences

@@ -3,7 +3,8 @@ use native.Mathlib.Omega.{arith}
 use mathlib.Core.Path.{refl, _∙_}
 use Prim.Native.Nat.{_-_, _*_}
 use mathlib.Core.Logic.{⊎-elim}
-use Rattle.visits.proofs.Read.{carried-small, round-low, round-high, fit-low, fit-high, fit-few, fit-many, fit-is}
+use Rattle.words.proofs.Differences.{low-difference, high-difference}
+use Rattle.visits.proofs.Read.{carried-small, fit-low, fit-high, fit-few, fit-many, fit-is}
 use borrow.Author.Needs.{needs}
 use Rattle.visits.proofs.misfit.Statement.{statement}
 use Rattle.visits.proofs.misfit.Tie as tie
@@ -21,7 +22,7 @@ returns c =
     ⊎-elim
     (λ h. fit-few (x .s) (x .count) (x .n) _ refl h)
     (λ h. fit-many (x .s) (x .count) (x .n) _ refl h)
-    (round-high (x .count * (x .s .b - 1)) (x .n) (w .result) (x .s .b - 1) (carried-small (x .s) (y .pre .0) (x .count) (y .pre .1)) (w .ok) (omega arith) (w .ensures) (c .if3 .taken))
+    (high-difference (x .count * (x .s .b - 1)) (x .n) (w .result) (x .s .b - 1) (w .ensures) (w .ok) (omega arith) (c .if3 .taken))
 
 returns-2 : tie.Need-returns-2
 returns-2 c =
@@ -32,7 +33,7 @@ returns-2 c =
     (λ v. fit-high (x .s) (x .count) (x .n) _ (v .1) (v .0 .taken))
     (λ h. ⊎-elim
     (λ v. fit-low (x .s) (x .count) (x .n) _ (h .1 ∙ v .1) (v .0 .taken))
-    (λ l. let r = round-low (x .count * (x .s .b - 1)) (x .n) (w .result) (x .s .b - 1) (carried-small (x .s) (y .pre .0) (x .count) (y .pre .1)) (w .ok) (omega arith) (w .ensures) (c .if3 .left) (omega arith) (h .0 .left) in
+    (λ l. let r = low-difference (x .count * (x .s .b - 1)) (x .n) (w .result) (x .s .b - 1) (w .ensures) (c .if3 .left) (omega (arith, h .0 .left)) in
     fit-is (x .s) (x .count) (x .n) _ (h .1 ∙ l .1) (l .0 .left) (h .0 .left) (r .0) (r .1))
     (c .before .before .before .if1 .came))
     (c .before .before .if2 .came)
