@@ -14,10 +14,6 @@ use Rattle.words.specs.Count.{occurs}
 use Rattle.words.proofs.Count.{hit-self}
 use Rattle.words.proofs.Lists.{put, put-same, put-other, same?}
 
--- the row of block b
-abbrev pub blockRow : ℕ → ℕ
-blockRow b = 76 + b
-
 module _ (B : ℕ) (R : ℕ → List ℕ) where
   abbrev pub linkIn : ℕ → ℕ
   linkIn b = getD (R (76 + b)) (B - 1) 0

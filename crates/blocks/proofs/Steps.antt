@@ -1,21 +1,29 @@
 -- One step of each walk along the links, at a count n that the code holds as n and n - 1. Assumes nothing.
 use mathlib.Core.Path.{_≡_, refl, sym, ap, _∙_, subst}
 use mathlib.Core.List.{List, [], _∷_}
-use Prim.Native.Nat.{ℕ, zero, suc, _-_, _≤_, _<_}
+use Prim.Native.Nat.{ℕ, zero, suc, _+_, _-_, _*_, _≤_, _<_}
+use native.Mathlib.Nat.{suc-mul}
 use native.Mathlib.Omega.{arith}
 use lib.ListN.{length, getD}
 use borrow.Author.Tests.{eq-eqb, ne-eqb}
 use Rattle.words.proofs.Lists.{same?}
 use Rattle.settings.specs.declared.Settings.{Settings}
-use Rattle.layout.specs.Places.{nodeSize}
+use Rattle.settings.specs.Range.{InRange}
+use Rattle.layout.specs.Places.{blocksAt, blockAt, linkAt, nodeSize}
 use Rattle.layout.specs.Asked.{Stretch}
-use Rattle.blocks.specs.Asked.{Block}
+use Rattle.layout.proofs.Fits.{block-fits, node-small}
+use Rattle.blocks.specs.Asked.{Block, Walks, Follows}
 use Rattle.blocks.specs.Chain.{link, chain, after, list, Within}
 
 -- the two words before the queues lie in the stretch
 pub head-fits : (s : Settings) → 2 ≤ nodeSize s
 unfolding nodeSize
 head-fits s = omega arith
+
+-- and so the blocks do not begin with the first word
+pub first-word : (s : Settings) → 1 ≤ blockAt s 1
+unfolding blockAt blocksAt
+first-word s = omega arith
 
 -- a number from 1 to M is that of a block
 pub is-block : (s : Settings) (node : List ℕ) (b : ℕ) → Stretch s node → (1 ≤ b) × (b ≤ s .m) → Block s node b
@@ -24,6 +32,11 @@ is-block s node b st i = record { stretch = st; low = i .0; high = i .1 }
 -- from the code's n and n - 1 to `suc`, by which a definition recurses
 pub down : (n : ℕ) → 1 ≤ n → n ≡ suc (n - 1)
 down n h = omega arith
+
+-- a block's link, counted from the word before the first block
+pub link-counted : (s : Settings) → InRange s → (b : ℕ) → 1 ≤ b → blockAt s 1 - 1 + b * s .b ≡ linkAt s b
+unfolding blockAt blocksAt
+link-counted s r b low = let w = r .b .low in omega (arith, suc-mul (b - 1) (s .b), ap (λ (k : ℕ). k * s .b) (down b low))
 
 module _ (s : Settings) (node : List ℕ) where
   pub chain-step : (n b : ℕ) → 1 ≤ n → chain s node n b ≡ b ∷ chain s node (n - 1) (link s node b)
@@ -51,6 +64,41 @@ module _ (s : Settings) (node : List ℕ) where
   -- the last of n blocks
   pub last-in : (m n b : ℕ) → 1 ≤ n → Within m (chain s node n b) → (1 ≤ after s node (n - 1) b) × (after s node (n - 1) b ≤ m)
   last-in m n b h w = after-in m (n - 1) b (subst (λ (k : ℕ). Within m (chain s node k b)) (down n h) w)
+
+  -- the same walk by numbers
+  pub follows : (n b first : ℕ) → first ≡ blockAt s 1 → Walks s node n b → 1 ≤ n → Follows s node (first - 1) (s .b) n b
+  follows n b first e w h = record { walks = w; some = h; first = ap (λ (k : ℕ). k - 1) e; wide = refl }
+
+  module _ (before width n b : ℕ) (f : Follows s node before width n b) where
+    head-in : (1 ≤ b) × (b ≤ s .m)
+    head-in = within-step (s .m) n b (f .some) (f .walks .within) .0
+
+    link-found : before + b * width ≡ linkAt s b
+    link-found = rw (f .first, f .wide) (link-counted s (f .walks .stretch .range) b (head-in .0))
+
+    pub follow-fits : (before + b * width < length node) × (before + b * width ≤ 85274)
+    follow-fits =
+        let i = head-in in
+        let st = f .walks .stretch in
+        let w = st .range .b .low in
+        let q = st .long in
+        let e = link-found in
+        let k = block-fits s b (i .0) (i .1) in
+        (omega arith, omega (arith, node-small s (st .range)))
+
+    pub follow-step : (n ≡ 1 → ⊥) → Follows s node before width (n - 1) (getD node (before + b * width) 0)
+    follow-step h =
+        let g = f .some in
+        rw link-found
+        (record {
+          walks = record { stretch = f .walks .stretch; within = within-step (s .m) n b g (f .walks .within) .1 };
+          some = omega arith;
+          first = f .first;
+          wide = f .wide;
+        })
+
+    pub follow-after : (n ≡ 1 → ⊥) → after s node (n - 1) b ≡ after s node (n - 1 - 1) (getD node (before + b * width) 0)
+    follow-after h = let g = f .some in rw link-found (after-step (n - 1) b (omega arith))
 
   -- ---- a list that ends with a link 0
   list-some : (n b : ℕ) → (b ≡ 0 → ⊥) → list s node (suc n) b ≡ b ∷ list s node n (link s node b)

@@ -1,10 +1,10 @@
 -- What a sound memory gives, and the functions on chains and on the free list ask for.
 use mathlib.Core.Path.{_≡_}
 use mathlib.Core.List.{List}
-use Prim.Native.Nat.{ℕ, _≤_}
+use Prim.Native.Nat.{ℕ, _-_, _≤_}
 use lib.ListN.{length, getD}
 use Rattle.settings.specs.declared.Settings.{Settings}
-use Rattle.layout.specs.Places.{firstFreeAt}
+use Rattle.layout.specs.Places.{firstFreeAt, blockAt}
 use Rattle.layout.specs.Asked.{Stretch}
 use Rattle.blocks.specs.Chain.{chain, after, list, free, Within, Once}
 
@@ -18,6 +18,13 @@ pub record Block (s : Settings) (node : List ℕ) (b : ℕ) : Type 0 where
 pub record Walks (s : Settings) (node : List ℕ) (n b : ℕ) : Type 0 where
   pub stretch : Stretch s node
   pub within : Within (s .m) (chain s node n b)
+
+-- the same for a walk that knows no settings: of n blocks, one at least, the link of block b is word before + b * width
+pub record Follows (s : Settings) (node : List ℕ) (before width n b : ℕ) : Type 0 where
+  pub walks : Walks s node n b
+  pub some : 1 ≤ n
+  pub first : before ≡ blockAt s 1 - 1
+  pub wide : width ≡ s .b
 
 -- the blocks from b on up to a link 0, n at most and one at least, are blocks of the stretch
 pub record Reaches (s : Settings) (node : List ℕ) (n b : ℕ) : Type 0 where

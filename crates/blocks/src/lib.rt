@@ -3,10 +3,11 @@ use settings::Settings;
 ghost use mathlib.Core.Path.{_≡_};
 ghost use Prim.Native.Nat.{_-_, _≤_};
 ghost use lib.ListN.{getD, set};
+ghost use Rattle.settings.specs.declared.Settings.{Settings};
 ghost use Rattle.settings.specs.Range.{InRange};
 ghost use Rattle.layout.specs.Places.{linkAt};
 ghost use Rattle.blocks.specs.Chain.{needs, link, after, list};
-ghost use Rattle.blocks.specs.Asked.{Block, Walks, Reaches, Takes};
+ghost use Rattle.blocks.specs.Asked.{Block, Walks, Follows, Reaches, Takes};
 ghost use Rattle.blocks.specs.Moves.{taken, takenAnswer, givenBack};
 
 // The blocks that n words need.
@@ -36,35 +37,27 @@ pub fn set_link(node: &mut [u32], s: Settings, b: u32, next: u32)
     node[at] = next;
 }
 
-// The last of the `owed` blocks from b on: each link followed leaves one block fewer owed.
+// The last of the `owed` blocks from b on: each link followed leaves one block fewer owed. The link of block b is word
+// `before + b * width`.
+fn last_on(node: &&[u32], before: usize, width: usize, b: u32, owed: usize) -> u32
+    requires { ⌜ ((s : Settings) × Follows s (now (now node)) before width owed b) ⌝ }
+    ensures { λ r. ⌜ ((s : Settings) → Follows s (now (now (node .entry))) before width owed b → r ≡ after s (now (now (node .entry))) (owed - 1) b) ⌝ }
+{
+    if owed == 1 {
+        return b;
+    }
+    let next = node[before + b as usize * width];
+    last_on(node, before, width, next, owed - 1)
+}
+
+// The same in a stretch with settings s.
 pub fn last_of(node: &[u32], s: Settings, b: u32, owed: usize) -> u32
     requires { ⌜ Walks s (now node) owed b ⌝ }
     requires { ⌜ 1 ≤ owed ⌝ }
     ensures { λ r. ⌜ r ≡ after s (now (node .entry)) (owed - 1) b ⌝ }
 {
-    if owed == 1 {
-        b
-    } else {
-        let next = link_of(node, s, b);
-        last_of(node, s, next, owed - 1)
-    }
-}
-
-// The same, its first two blocks with no call: most letters have no more. The stretch is lent to the call as a part of itself, so that only a
-// letter that goes so far makes it ready.
-fn end_of(node: &[u32], s: Settings, b: u32, owed: usize) -> u32
-    requires { ⌜ Walks s (now node) owed b ⌝ }
-    requires { ⌜ 1 ≤ owed ⌝ }
-    ensures { λ r. ⌜ r ≡ after s (now (node .entry)) (owed - 1) b ⌝ }
-{
-    if owed == 1 {
-        return b;
-    }
-    let next = link_of(node, s, b);
-    if owed == 2 {
-        return next;
-    }
-    last_of(&node[0..node.len()], s, next, owed - 1)
+    let before = layout::block_at(s, 1) - 1;
+    last_on(&node, before, s.b, b, owed)
 }
 
 // Puts the chain of `owed` blocks from b on, in its order, before the free list.
@@ -73,7 +66,7 @@ pub fn give_back(node: &mut [u32], s: Settings, b: u32, owed: usize)
     requires { ⌜ 1 ≤ owed ⌝ }
     ensures { λ _. ⌜ now (node .exit) ≡ givenBack s (now (node .entry)) owed b ⌝ }
 {
-    let last = end_of(node, s, b, owed);
+    let last = last_of(node, s, b, owed);
     let first = node[0];
     set_link(node, s, last, first);
     node[0] = b;

@@ -1,5 +1,5 @@
 -- One law for each way that a stage, a step and a turn go on. Assumes nothing.
-use mathlib.Core.Path.{_≡_, ap, _∙_, subst}
+use mathlib.Core.Path.{_≡_, _∙_, subst}
 use mathlib.Core.List.{List}
 use Prim.Native.Nat.{ℕ, suc, _+_, _-_, _≤_, _<_}
 use native.Mathlib.Omega.{arith}
@@ -9,8 +9,8 @@ use Rattle.sound.specs.Reading.{sendItems, ackItems}
 use Rattle.postman.specs.declared.Stage.{Stage}
 use Rattle.postman.specs.declared.Stage.the-variants.{Done, Stopped}
 use Rattle.postman.specs.declared.Round.{Round}
-use Rattle.postman.specs.Round.{Did, did, Post, post, onStage, stage, andThen, into, stopped, oneLetter}
-use Rattle.stages_keep.specs.Steps.{spaceOf, copiedIn, queued, handedOn, delivered, carried, carriedAll, carriedFrom, collected, collectedAll, collectedFrom}
+use Rattle.postman.specs.Round.{Did, did, Post, post, onStage, stage, andThen, into}
+use Rattle.stages_keep.specs.Steps.{carried, carriedAll, carriedFrom, collected, collectedAll, collectedFrom}
 
 -- ---- a stage that stopped, and one that was done
 module _ (stop : Stage → Round) (go : List ℕ → Post) {d : Did} {m : List ℕ} {h : Stage} where
@@ -34,21 +34,6 @@ module _ (f : List ℕ → Round → Post) {p : Post} {m : List ℕ} {r : Round}
   pub then-go : {q : Post} → post m r ≡ p → r .how ≡ Done → q ≡ f m r → q ≡ andThen p f
   unfolding andThen
   then-go {q} e t u = subst (λ (x : Post). q ≡ andThen x f) e (u ∙ on-done (r .how) (post m r) (f m r) t)
-
--- ---- stage 2 on, and stage 1 on where it was done
-module _ (s : Settings) (j : ℕ) (m : List ℕ) (i : ℕ) (r : Round) (c : ℕ) {m₁ : List ℕ} {h : Stage} where
-  module _ (e : did m₁ h ≡ queued s j m c) where
-    pub delivered-stop : {n : ℕ} {a : Round} → h ≡ Stopped n → a ≡ stopped r 2 i c h → post m₁ a ≡ delivered s j m i c r
-    unfolding delivered
-    delivered-stop t u = stage-stop _ _ e t u
-
-    pub delivered-go : {a : Round} {p : Post} → h ≡ Done → a ≡ oneLetter r → p ≡ handedOn s j m₁ i a → p ≡ delivered s j m i c r
-    unfolding delivered
-    delivered-go t u v = stage-go _ _ e t (v ∙ ap (λ (z : Round). handedOn s j m₁ i z) u)
-
-  pub carried-go : {p : Post} → c ≡ spaceOf s j m → did m₁ h ≡ copiedIn s j m i → h ≡ Done → p ≡ delivered s j m₁ i c r → p ≡ carried s j m i r
-  unfolding carried
-  carried-go f e t v = stage-go _ _ e t (v ∙ ap (λ (z : ℕ). delivered s j m₁ i z r) f)
 
 down : (k : ℕ) → 1 ≤ k → k ≡ suc (k - 1)
 down k h = omega arith

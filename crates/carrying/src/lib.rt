@@ -97,7 +97,7 @@ pub fn deliver(memory: &mut [u32], s: Settings, j: usize, i: usize, c: u32, r: R
     hand_on(memory, s, j, i, a)
 }
 
-// Stage 1 on: takes space for node i's first letter, and copies it. Stage 2 stands here again: the loop over letters makes no call.
+// Stage 1 on: takes space for node i's first letter, and copies it.
 fn carry(memory: &mut [u32], s: Settings, j: usize, i: usize, r: Round) -> Round
     requires { ⌜ Carries s (now memory) j i 1 r ⌝ }
     ensures { λ a. ⌜ post (now (memory .exit)) a ≡ carried s j (now (memory .entry)) i r ⌝ }
@@ -107,12 +107,7 @@ fn carry(memory: &mut [u32], s: Settings, j: usize, i: usize, r: Round) -> Round
     let Stage::Done = how else {
         return postman::stop(r, 1, i, 0, how);
     };
-    let queued = stages::put_task(memory, s, j, c);
-    let Stage::Done = queued else {
-        return postman::stop(r, 2, i, c, queued);
-    };
-    let a = postman::one_letter(r);
-    hand_on(memory, s, j, i, a)
+    deliver(memory, s, j, i, c, r)
 }
 
 // Step 2 on node i: k letters.

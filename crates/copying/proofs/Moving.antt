@@ -1,15 +1,14 @@
 -- A letter copied from one node's chain to another's, a block at a time. Assumes nothing.
 use mathlib.Core.Path.{_≡_, refl, sym, ap, ap₂, _∙_}
 use mathlib.Core.Logic.{_⊎_, inl, inr, ⊎-elim}
-use mathlib.Core.List.{List, [], _∷_, append-assoc}
-use Prim.Native.Nat.{ℕ, zero, suc, _+_, _-_, _≤_, _<_, min}
+use mathlib.Core.List.{List, [], _∷_}
+use Prim.Native.Nat.{ℕ, suc, _+_, _-_, _≤_, _<_, min}
 use native.Mathlib.Omega.{arith}
-use lib.ListN.{length, getD, set, take, drop, length-set, length-take}
-use lib.Seq.{sets, sets-eq, length-sets, take-suc, take-take, take-add, take-all, drop-drop, length-take-le, set-set, set-comm, getD-set-other}
+use lib.ListN.{length, getD, set, take, drop, length-set}
+use lib.Seq.{sets, length-sets, take-take, take-all, drop-drop, length-take-le, getD-set-other}
 use Rattle.words.specs.Words.{part, splice}
 use Rattle.words.proofs.Lists.{le-or-lt}
-use Rattle.words.proofs.Over.{sets-append}
-use Rattle.words.proofs.Parts.{getD-part, length-part, splice-part, splice-set, splice-splice, part-splice, part-before, part-after, length-splice, drop-take}
+use Rattle.words.proofs.Parts.{getD-part, length-part, splice-part, splice-set, splice-splice, part-splice, length-splice, drop-take}
 use Rattle.settings.specs.declared.Settings.{Settings}
 use Rattle.layout.specs.Places.{blockAt, nodeAt, nodeEnd, nodeSize, node, withNode}
 use Rattle.layout.specs.Asked.{Sized}
@@ -17,37 +16,17 @@ use Rattle.layout.proofs.Fits.{block-fits}
 use Rattle.blocks.specs.Chain.{needs, link, chain, text}
 use Rattle.blocks.specs.Asked.{Walks}
 use Rattle.letters.specs.Letter.{letter, piece, laid, copied}
-use Rattle.letters.proofs.Steps.{piece-is, piece-long, head-block, walks-rest, front-words, rest-words, laid-none, laid-step, walks-laid, words-rest}
+use Rattle.letters.proofs.Steps.{piece-is, piece-long, head-block, walks-rest, front-words, rest-words, laid-none, laid-step, walks-laid}
+use Rattle.letters.proofs.UnderWay.{sets-more}
 use Rattle.letters.proofs.Copies.{inside, before-node, node-long, length-letter, put-long, put-to, put-again, put-away}
 use Rattle.copying.specs.Asked.{Moves, CopiesBlock, Copies}
 
--- ---- stores beside and over a run of stores
+-- ---- a word that a run of stores leaves
 sets-away : (p l : List ℕ) (a i : ℕ) → (i < a) ⊎ (a + length p ≤ i) → getD (sets l a p) i 0 ≡ getD l i 0
 sets-away [] l a i h = refl
 sets-away (x ∷ p) l a i h =
     sets-away p (set l a x) (suc a) i (⊎-elim (λ u. inl (omega arith)) (λ u. inr (omega arith)) h)
     ∙ getD-set-other l a i x 0 (λ e. ⊎-elim (λ u. omega arith) (λ u. omega arith) h)
-
-sets-before : (p l : List ℕ) (a i x : ℕ) → i < a → set (sets l a p) i x ≡ sets (set l i x) a p
-sets-before [] l a i x h = refl
-sets-before (y ∷ p) l a i x h =
-    sets-before p (set l a y) (suc a) i x (omega arith)
-    ∙ ap (λ (r : List ℕ). sets r (suc a) p) (set-comm l a i y x (λ e. omega arith))
-
--- a run over its own front
-sets-front : (k : ℕ) (p l : List ℕ) (a : ℕ) → sets (sets l a (take k p)) a p ≡ sets l a p
-sets-front zero p l a = refl
-sets-front (suc k) [] l a = refl
-sets-front (suc k) (x ∷ p) l a =
-    ap (λ (r : List ℕ). sets r (suc a) p) (sets-before (take k p) (set l a x) (suc a) a x (omega arith) ∙ ap (λ (r : List ℕ). sets r (suc a) (take k p)) (set-set l a x x))
-    ∙ sets-front k p (set l a x) (suc a)
-
--- a part that has none of the words stored
-part-away : (l p : List ℕ) (a b f : ℕ) → a + length p ≤ length l → b ≤ f → (f ≤ a) ⊎ (a + length p ≤ b) → part (sets l a p) b f ≡ part l b f
-part-away l p a b f g o h =
-    let z : length p ≡ a + length p - a = omega arith in
-    ap (λ (r : List ℕ). part r b f) (sets-eq p l a g ∙ append-assoc (take a l) p (drop (a + length p) l))
-    ∙ ⊎-elim (λ u. part-before l a (a + length p) (omega arith) g p z b f o u) (λ u. part-after l a (a + length p) (omega arith) g p z b f u) h
 
 -- ---- words read and stored in a part are words of the list
 module _ (l : List ℕ) (a e : ℕ) (h : a ≤ e) (g : e ≤ length l) where
@@ -84,82 +63,18 @@ module _ (m : List ℕ) (from to n : ℕ) (w : Moves m from to n) where
   moving-long = length-part m from (from + n) (omega arith) (w .reads) ∙ omega arith
 
   -- the words up to k stand; one more
-  moved-one : (k : ℕ) (l : List ℕ) → k < n → l ≡ sets m to (take k moving) → set l (to + k) (getD m (from + k) 0) ≡ sets m to (take (k + 1) moving)
-  moved-one k l h e =
-      let z = moving-long in
-      let r = w .reads in
-      let lq : length (take k moving) ≡ k = length-take-le k moving (omega arith) in
-      let c : suc k ≡ k + 1 = omega arith in
-      ap₂ (λ (r : List ℕ) (x : ℕ). set r (to + k) x) e (sym (getD-part m from (from + n) (omega arith) r k (omega arith)))
-      ∙ ap (λ (i : ℕ). set (sets m to (take k moving)) (to + i) (getD moving k 0)) (sym lq)
-      ∙ sym (sets-append (take k moving) (getD moving k 0 ∷ []) m to)
-      ∙ ap (sets m to) (sym (take-suc moving k 0 (omega arith)))
-      ∙ ap (λ (i : ℕ). sets m to (take i moving)) c
-
   pub moved-more : (k : ℕ) (l : List ℕ) → k < n → l ≡ sets m to (take k (part m from (from + n)))
       → set l (to + k) (getD l (from + k) 0) ≡ sets m to (take (k + 1) (part m from (from + n)))
   moved-more k l h e =
       let z = moving-long in
       let lq : length (take k moving) ≡ k = length-take-le k moving (omega arith) in
       let o : (from + k < to) ⊎ (to + length (take k moving) ≤ from + k) = ⊎-elim (λ u. inl (omega arith)) (λ u. inr (omega arith)) (w .apart) in
-      ap (set l (to + k)) (ap (λ (r : List ℕ). getD r (from + k) 0) e ∙ sets-away (take k moving) m to (from + k) o)
-      ∙ moved-one k l h e
+      ap₂ (λ (r : List ℕ) (x : ℕ). set r (to + k) x) e
+      (ap (λ (r : List ℕ). getD r (from + k) 0) e ∙ sets-away (take k moving) m to (from + k) o ∙ sym (getD-part m from (from + n) (omega arith) (w .reads) k (omega arith)))
+      ∙ sets-more moving m to k (omega arith)
 
   pub moved-all : (k : ℕ) (l : List ℕ) → n ≤ k → l ≡ sets m to (take k (part m from (from + n))) → l ≡ sets m to (part m from (from + n))
   moved-all k l h e = let z = moving-long in e ∙ ap (sets m to) (take-all k moving (omega arith))
-
-  -- the words up to k stand; four from word i on, some of which may be among them
-  module _ (i : ℕ) (h : i + 4 ≤ n) (l : List ℕ) where
-    pub four-moves : length l ≡ length m → Moves l (from + i) (to + i) 4
-    four-moves e =
-        let r = w .reads in
-        let v = w .writes in
-        record { reads = omega arith; writes = omega arith; apart = ⊎-elim (λ u. inl (omega arith)) (λ u. inr (omega arith)) (w .apart) }
-
-    pub moved-four : (k : ℕ) → i ≤ k → k ≤ i + 4 → l ≡ sets m to (take k (part m from (from + n)))
-        → sets l (to + i) (part l (from + i) (from + i + 4)) ≡ sets m to (take (i + 4) (part m from (from + n)))
-    moved-four k low high e =
-        let z = moving-long in
-        let v = w .writes in
-        let four : List ℕ = take 4 (drop i moving) in
-        let lk : length (take k moving) ≤ n = rw length-take (omega arith) in
-        let li : length (take i moving) ≡ i = length-take-le i moving (omega arith) in
-        let o : (from + (i + 4) ≤ to) ⊎ (to + length (take k moving) ≤ from + i) = away k lk in
-        let c : from + i + 4 ≡ from + (i + 4) = omega arith in
-        let d : i + 4 - i ≡ 4 = omega arith in
-        let q : i + (k - i) ≡ k = omega arith in
-        let p : part l (from + i) (from + i + 4) ≡ four =
-        ap (λ (x : ℕ). part l (from + i) x) c
-        ∙ ap (λ (r : List ℕ). part r (from + i) (from + (i + 4))) e
-        ∙ part-away m (take k moving) to (from + i) (from + (i + 4)) (omega arith) (omega arith) o
-        ∙ sym (part-in m from (from + n) (omega arith) (w .reads) i (i + 4) (omega arith))
-        ∙ ap (λ (x : ℕ). take x (drop i moving)) d in
-        let b : l ≡ sets (sets m to (take i moving)) (to + i) (take (k - i) four) =
-        e ∙ ap (λ (x : ℕ). sets m to (take x moving)) (sym q)
-        ∙ ap (sets m to) (take-add i (k - i) moving)
-        ∙ sets-append (take i moving) (take (k - i) (drop i moving)) m to
-        ∙ ap₂ (λ (x : ℕ) (r : List ℕ). sets (sets m to (take i moving)) (to + x) r) li (sym (take-take (k - i) 4 (drop i moving) (omega arith))) in
-        ap₂ (λ (r x : List ℕ). sets r (to + i) x) b p
-        ∙ sets-front (k - i) four (sets m to (take i moving)) (to + i)
-        ∙ ap (λ (x : ℕ). sets (sets m to (take i moving)) (to + x) four) (sym li)
-        ∙ sym (sets-append (take i moving) four m to)
-        ∙ ap (sets m to) (sym (take-add i 4 moving))
-      where
-        away : (k : ℕ) → length (take k moving) ≤ n → (from + (i + 4) ≤ to) ⊎ (to + length (take k moving) ≤ from + i)
-        away k lk = ⊎-elim (λ u. inl (omega arith)) (λ u. inr (omega arith)) (w .apart)
-
--- four words, each read before one is stored
-pub four-is : (m : List ℕ) (from to : ℕ) → Moves m from to 4
-    → set (set (set (set m to (getD m from 0)) (to + 1) (getD m (from + 1) 0)) (to + 2) (getD m (from + 2) 0)) (to + 3) (getD m (from + 3) 0) ≡ sets m to (part m from (from + 4))
-four-is m from to w =
-    let a : to ≡ to + 0 = omega arith in
-    let b : from ≡ from + 0 = omega arith in
-    let e₁ : set m to (getD m from 0) ≡ sets m to (take 1 (part m from (from + 4))) =
-    ap₂ (λ (t f : ℕ). set m t (getD m f 0)) a b ∙ moved-one m from to 4 w 0 m (omega arith) refl in
-    let e₂ = moved-one m from to 4 w 1 (set m to (getD m from 0)) (omega arith) e₁ in
-    let e₃ = moved-one m from to 4 w 2 (set (set m to (getD m from 0)) (to + 1) (getD m (from + 1) 0)) (omega arith) e₂ in
-    moved-all m from to 4 w 4 (set (set (set (set m to (getD m from 0)) (to + 1) (getD m (from + 1) 0)) (to + 2) (getD m (from + 2) 0)) (to + 3) (getD m (from + 3) 0)) (omega arith)
-    (moved-one m from to 4 w 3 (set (set (set m to (getD m from 0)) (to + 1) (getD m (from + 1) 0)) (to + 2) (getD m (from + 2) 0)) (omega arith) e₃)
 
 -- ---- one block
 module _ (s : Settings) (m : List ℕ) (i x j y : ℕ) (w : CopiesBlock s m i x j y) (left n from to : ℕ)
@@ -255,23 +170,21 @@ module _ (s : Settings) (m₀ : List ℕ) (n i b j c : ℕ) (w : Copies s m₀ n
         abbrev rest : List ℕ
         rest = take (left - k) (text s (node s m i) (chain s (node s m i) (owed - 1) x′))
 
-        rest-is : rest ≡ part words (length (take (s .b - 1) words)) (length words)
+        rest-is : rest ≡ drop (s .b - 1) words
         rest-is =
             ap (λ (z : ℕ). take (left - k) (text s (node s m i) (chain s (node s m i) (owed - 1) z))) ex
             ∙ sym (rest-words s (node s m i) owed x (u .from) some left k ek)
-            ∙ sym (words-rest s (node s m j) owed y (u .to) words some y′ (length (take (s .b - 1) words)) new ey refl new-is)
 
         pub way-goes : UnderWay s m₀ n i b j c m′ (owed - 1) (left - k) x′ y′
         way-goes =
             record {
               sized = record { range = u .sized .range; long = ap length em ∙ put-long s m (u .sized) j (w .destination) new new-long ∙ u .sized .long };
               from = rw (at-i, ex) (walks-rest s (node s m i) owed x (u .from) some);
-              to = rw at-j (walks-laid s (node s m j) owed y (u .to) words some y′ (length (take (s .b - 1) words)) new ey refl new-is);
+              to = rw at-j (walks-laid s (node s m j) owed y (u .to) words some y′ new ey new-is);
               is = ap₂ (λ (p q : List ℕ). withNode s m′ j (laid s p (owed - 1) y′ (take (left - k) (text s q (chain s q (owed - 1) x′))))) at-j at-i
                   ∙ ap (λ (l : List ℕ). withNode s l j (laid s new (owed - 1) y′ rest)) em
                   ∙ put-again s m (u .sized) j (w .destination) new new-long (laid s new (owed - 1) y′ rest)
                   ∙ ap (withNode s m j)
-                  (laid-step s (node s m j) owed y (u .to) words some y′ (length (take (s .b - 1) words)) new ey refl new-is (laid s new (owed - 1) y′ rest)
-                  (ap (laid s new (owed - 1) y′) rest-is))
+                  (ap (laid s new (owed - 1) y′) rest-is ∙ laid-step s (node s m j) owed y (u .to) words some y′ new ey new-is)
                   ∙ u .is;
             }

@@ -23,23 +23,8 @@ fn link_in(memory: &[u32], s: Settings, i: usize, b: u32) -> u32
     blocks::link_of(&memory[a..e], s, b)
 }
 
-// Copies four words of the memory over four others; all are read before the first is written, so that they go as one.
-fn move_four(memory: &mut [u32], from: usize, to: usize)
-    requires { ⌜ Moves (now memory) from to 4 ⌝ }
-    ensures { λ _. ⌜ now (memory .exit) ≡ sets (now (memory .entry)) to (part (now (memory .entry)) from (from + 4)) ⌝ }
-{
-    let a = memory[from];
-    let b = memory[from + 1];
-    let c = memory[from + 2];
-    let d = memory[from + 3];
-    memory[to] = a;
-    memory[to + 1] = b;
-    memory[to + 2] = c;
-    memory[to + 3] = d;
-}
-
-// Copies n words of the memory over n others, one by one: for fewer than four.
-fn move_few(memory: &mut [u32], from: usize, to: usize, n: usize)
+// Copies n words of the memory over n others.
+fn move_words(memory: &mut [u32], from: usize, to: usize, n: usize)
     requires { ⌜ Moves (now memory) from to n ⌝ }
     ensures { λ _. ⌜ now (memory .exit) ≡ sets (now (memory .entry)) to (part (now (memory .entry)) from (from + n)) ⌝ }
 {
@@ -48,24 +33,6 @@ fn move_few(memory: &mut [u32], from: usize, to: usize, n: usize)
         memory[to + k] = memory[from + k];
         k += 1;
     }
-}
-
-// Copies n words of the memory over n others, by fours; the last four may have some that stand there already.
-fn move_words(memory: &mut [u32], from: usize, to: usize, n: usize)
-    requires { ⌜ Moves (now memory) from to n ⌝ }
-    ensures { λ _. ⌜ now (memory .exit) ≡ sets (now (memory .entry)) to (part (now (memory .entry)) from (from + n)) ⌝ }
-{
-    if n < 4 {
-        move_few(memory, from, to, n);
-        return;
-    }
-    let mut k: usize = 0;
-    while k + 4 < n {
-        move_four(memory, from + k, to + k);
-        k += 4;
-    }
-    let last = n - 4;
-    move_four(memory, from + last, to + last);
 }
 
 // Copies the words of block x of node i, `left` at most, over the first of block y of node j; how many they are.

@@ -26,7 +26,7 @@ use Rattle.setup.specs.declared.SetUp.the-variants.{Done as SetUp-done, Setting
 use Rattle.setup.specs.Outcome.{setUp}
 use Rattle.setup.specs.Fresh.{freshMemory}
 use Rattle.settings.proofs.Laws.{range-true}
-use Rattle.posting.specs.Letter.{letterOf}
+use Rattle.letters.specs.Made.{letterOf}
 use Rattle.posting.specs.declared.Sent.{Sent}
 use Rattle.posting.specs.declared.Sent.the-variants.{Done as Sent-done, NotSound as Sent-not-sound, SourceNotBound as Sent-source, DestinationNotBound as Sent-destination, BodyTooLong, TooFewBlocks, QueueFull}
 use Rattle.send.specs.Outcome.{send}

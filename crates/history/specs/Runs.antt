@@ -7,7 +7,8 @@ use Rattle.sound.specs.Reading.{tableIn}
 use Rattle.setup.specs.declared.SetUp.{SetUp}
 use Rattle.setup.specs.declared.SetUp.the-variants.{Done as SetUp-done, SettingOutOfRange, WrongTable, OtherSize}
 use Rattle.setup.specs.Outcome.{setUp}
-use Rattle.posting.specs.Letter.{letterOf, headerOf}
+use Rattle.letters.specs.Made.{letterOf}
+use Rattle.posting.specs.Letter.{headerOf}
 use Rattle.posting.specs.declared.Sent.{Sent}
 use Rattle.posting.specs.declared.Sent.the-variants.{Done as Sent-done, NotSound as Sent-not-sound, SourceNotBound as Sent-source, DestinationNotBound as Sent-destination, BodyTooLong, TooFewBlocks, QueueFull}
 use Rattle.send.specs.Outcome.{send}

@@ -106,10 +106,6 @@ module _ (s : Settings) (memory : List ℕ) (sz : Sized s memory) where
         length-laid s (needs s (length (letter s (node s memory i) n b))) (node s memory j) c (letter s (node s memory i) n b)
         ∙ node-long j j6
 
-    pub copy-long : length (copied s memory n i b j c) ≡ length memory
-    unfolding copied
-    copy-long = put-long j j6 put-in in-long
-
     -- the destination's stretch has the letter written
     pub copy-to : node s (copied s memory n i b j c) j ≡ written s (node s memory j) c (letter s (node s memory i) n b)
     unfolding copied

@@ -25,7 +25,7 @@ use Rattle.blocks.proofs.Chains.{linkIn, Leads, length-text}
 use Rattle.blocks.proofs.Rows.{rows, within-in, link-rows, text-rows, chain-is, chain-leads, block-long}
 use Rattle.blocks.proofs.Moves.{length-chain}
 use Rattle.letters.specs.Letter.{laid}
-use Rattle.letters.proofs.Texts.{fill, fill-link, fill-leads}
+use Rattle.letters.proofs.Texts.{fill, fill-leads}
 
 -- a chain of n blocks has n times B-1 words
 pub chain-long : (s : Settings) (node : List ℕ) (n b : ℕ) → Walks s node n b → length (text s node (chain s node n b)) ≡ n * (s .b - 1)
@@ -60,15 +60,7 @@ module _ (s : Settings) (range : InRange s) where
   unfolding fill
   block-fill l b ws h = rows-block l b (take (s .b - 1) ws) h (rw (length-take (s .b - 1) ws) (omega arith))
 
-  -- no link changes where a block's words are stored
-  pub block-link : (l : List ℕ) (b : ℕ) (ws : List ℕ) (x : ℕ) → 1 ≤ b → 1 ≤ x → link s (sets l (blockAt s b) (take (s .b - 1) ws)) x ≡ link s l x
-  block-link l b ws x h k =
-      link-rows s range (sets l (blockAt s b) (take (s .b - 1) ws)) x k
-      ∙ ap (λ (R : ℕ → List ℕ). linkIn (s .b) R x) (block-fill l b ws h)
-      ∙ fill-link (s .b) (rows s l) (b ∷ []) ws x
-      ∙ sym (link-rows s range l x k)
-
-  -- so no chain
+  -- no chain changes where a block's words are stored
   pub block-chain : (l : List ℕ) (b : ℕ) (ws : List ℕ) (n c : ℕ) → 1 ≤ b → Within (s .m) (chain s l n c) → chain s (sets l (blockAt s b) (take (s .b - 1) ws)) n c ≡ chain s l n c
   block-chain l b ws n c h w =
       let i : (x : ℕ) → 1 ≤ occurs x (chain s l n c) → 1 ≤ x = λ x o. within-in (s .m) (chain s l n c) x w o .0 in

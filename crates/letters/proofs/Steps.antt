@@ -1,14 +1,14 @@
 -- What the code of reading and writing does, a block at a time. Assumes nothing.
 use mathlib.Core.Path.{_≡_, refl, sym, ap, ap₂, _∙_}
-use mathlib.Core.List.{List, [], _∷_, _++_, append-nil, append-assoc}
+use mathlib.Core.List.{List, _++_}
 use Prim.Native.Nat.{ℕ, zero, suc, _+_, _-_, _*_, _/_, _%_, _≤_, _<_, min}
 use native.Mathlib.Nat.{suc-mul, zero-mul, add-div-right, mod-lt, div-eq-of-lt, mod-eq-of-lt}
 use native.Mathlib.Omega.{arith}
-use lib.ListN.{length, getD, take, drop, length-append, length-take, length-drop, drop-of-length-le}
-use lib.Seq.{sets, sets-eq, length-sets, take-all, take-at, drop-at, drop-drop, drop-append-le, drop-append-add}
-use borrow.Rule.Slice.PartMut.{putMid, postOf, post-is}
-use Rattle.words.specs.Words.{part, splice}
-use Rattle.words.proofs.Parts.{back, length-part, take-least, drop-take, take-join, drop-front}
+use lib.ListN.{length, getD, take, drop}
+use lib.Seq.{sets, length-sets, take-at, drop-at, drop-drop, drop-append-le, drop-append-add}
+use borrow.Rule.Slice.PartMut.{postOf, post-is}
+use Rattle.words.specs.Words.{part}
+use Rattle.words.proofs.Parts.{length-part, take-least, drop-take, take-join}
 use Rattle.settings.specs.declared.Settings.{Settings}
 use Rattle.settings.specs.Range.{InRange}
 use Rattle.layout.specs.Places.{blocksAt, blockAt, linkAt, nodeSize, nodeAt, node}
@@ -16,13 +16,13 @@ use Rattle.layout.specs.Asked.{Stretch}
 use Rattle.layout.proofs.Fits.{block-fits, node-small}
 use Rattle.blocks.specs.Chain.{needs, link, chain, after, text}
 use Rattle.blocks.specs.Asked.{Block, Walks}
-use Rattle.blocks.proofs.Steps.{is-block, down, chain-step, within-step, last-in}
+use Rattle.blocks.proofs.Steps.{is-block, down, link-counted, chain-step, within-step, last-in}
 use Rattle.reading.specs.Read.{linkFrom, stepAt}
 use Rattle.reading.specs.declared.Step.{Step}
-use Rattle.reading.specs.declared.Step.the-variants.{Words, End}
-use Rattle.reading.proofs.Laws.{step-words, step-end}
+use Rattle.reading.specs.declared.Step.the-variants.{Words}
+use Rattle.reading.proofs.Laws.{step-words}
 use Rattle.letters.specs.Letter.{onto, word, letter, piece, laid}
-use Rattle.letters.specs.Asked.{Lies, Covers}
+use Rattle.letters.specs.Asked.{Lies}
 use Rattle.letters.proofs.Rows.{block-chain, needs-enough}
 
 -- ---- one block
@@ -59,26 +59,10 @@ module _ (s : Settings) (node : List ℕ) (st : Stretch s node) (b : ℕ) (low :
     unfolding onto
     piece-got out p q = rw (← piece-long, piece-is, q, post-is 0 n out (omega arith)) refl
 
-  -- the words of a letter's front stored in it
-  module _ (ws : List ℕ) (n a : ℕ) (en : n ≡ min (length ws) (s .b - 1)) (ea : a ≡ blockAt s b) where
-    front-long : n ≡ length (take (s .b - 1) ws)
-    front-long = rw length-take (omega arith)
-
-    pub block-stored : (p : List ℕ) → p ≡ part ws 0 n
-        → (n ≡ length (take (s .b - 1) ws)) × (putMid a (a + n - a) node p ≡ sets node (blockAt s b) (take (s .b - 1) ws))
-    block-stored p q =
-        let f = fits in
-        let w = st .range .b .low in
-        let z : n - 0 ≡ n = omega arith in
-        let t : take (n - 0) ws ≡ take (s .b - 1) ws =
-        ap (λ (k : ℕ). take k ws) (z ∙ en) ∙ sym (take-least (length ws) (s .b - 1) ws) ∙ take-all (length ws) (take (s .b - 1) ws) (rw length-take (omega arith)) in
-        let fl = front-long in (
-          fl,
-          back a (a + n) node (omega arith) (q ∙ t)
-              ∙ ap (λ (k : ℕ). splice node k (k + n) (take (s .b - 1) ws)) ea
-              ∙ ap (λ (k : ℕ). splice node (blockAt s b) (blockAt s b + k) (take (s .b - 1) ws)) fl
-              ∙ sym (sets-eq (take (s .b - 1) ws) node (blockAt s b) (omega arith) ∙ append-assoc (take (blockAt s b) node) (take (s .b - 1) ws) (drop (blockAt s b + length (take (s .b - 1) ws)) node)),
-        )
+-- the blocks from b on, `owed` of them, have so many words
+pub record Covers (s : Settings) (stretch : List ℕ) (owed b words : ℕ) : Type 0 where
+  pub walks : Walks s stretch owed b
+  pub room : words ≤ owed * (s .b - 1)
 
 -- ---- the words of a chain, the first block's and the others'
 module _ (s : Settings) (node : List ℕ) (owed b : ℕ) (ws : Walks s node owed b) (some : 1 ≤ owed) where
@@ -141,51 +125,17 @@ module _ (s : Settings) (node : List ℕ) (owed b : ℕ) (ws : Walks s node owed
       drop-take (s .b - 1) len (text s node (chain s node owed b))
       ∙ ap₂ (λ (i : ℕ) (l : List ℕ). take i l) z (ap (drop (s .b - 1)) text-step ∙ drop-at (part node (blockAt s b) (linkAt s b)) rest (s .b - 1) own-size)
 
-  pub piece-most : (at len : ℕ) → length (piece s node b at len) ≤ len
-  unfolding piece
-  piece-most at len = rw length-take (omega arith)
-
   -- as many words as the step tells
   pub piece-carried : (at len k : ℕ) → at < s .b - 1 → k ≡ min len (s .b - 1 - at) → k ≡ length (piece s node b at len)
   piece-carried at len k h e = piece-long s node (ws .stretch) b (head-in .0) (head-in .1) at h len k (blockAt s b + at) e refl
 
-  -- and what the two reads leave in out
-  pub read-both : (at k next : ℕ) (out mid r : List ℕ) → next ≡ link s node b → at < s .b - 1 → k ≡ length (piece s node b at (length out)) → mid ≡ onto (piece s node b at (length out)) out
-      → r ≡ take (length (part mid k (length out))) (drop 0 (text s node (chain s node (owed - 1) next)))
-      → putMid k (length out - k) mid r ≡ take (length out) (drop at (text s node (chain s node owed b)))
-  unfolding onto
-  read-both at k next out mid r el h ek em er′ =
-      let er : r ≡ take (length (part mid k (length out))) rest = er′ ∙ ap (λ (x : ℕ). take (length (part mid k (length out))) (text s node (chain s node (owed - 1) x))) el in
-      let p : List ℕ = piece s node b at (length out) in
-      let m : length p ≤ length out = piece-most at (length out) in
-      let lm : length mid ≡ length out = ap length em ∙ length-append p (drop (length p) out) ∙ rw length-drop (omega arith) in
-      let lp : length (part mid k (length out)) ≡ length out - k = length-part mid k (length out) (omega arith) (omega arith) in
-      let tk : take k mid ≡ p = ap (take k) em ∙ take-at p (drop (length p) out) k (sym ek) in
-      let dn : drop (length out) mid ≡ [] = drop-of-length-le mid {i = length out} (omega arith) in
-      back k (length out) mid (omega arith) er
-      ∙ ap₂ (λ (u v : List ℕ). u ++ (take (length (part mid k (length out))) rest ++ v)) tk dn
-      ∙ ap (λ (u : List ℕ). p ++ u) (append-nil (take (length (part mid k (length out))) rest))
-      ∙ ap (λ (i : ℕ). p ++ take i rest) (lp ∙ ap (λ (i : ℕ). length out - i) ek)
-      ∙ sym (piece-text at (length out) h)
-
-  -- the words behind the first block are read as the words of the others
-  pub read-skip : (at next len : ℕ) (r : List ℕ) → next ≡ link s node b → s .b - 1 ≤ at
-      → r ≡ take len (drop (at - (s .b - 1)) (text s node (chain s node (owed - 1) next))) → r ≡ take len (drop at (text s node (chain s node owed b)))
-  read-skip at next len r el h q =
-      q ∙ ap (λ (x : ℕ). take len (drop (at - (s .b - 1)) (text s node (chain s node (owed - 1) x)))) el ∙ ap (take len) (sym (skip-text at h))
-
-  -- what the next read asks
+  -- what is left to read asks
   module _ (at len next : ℕ) (room : at + len ≤ owed * (s .b - 1)) (el : next ≡ link s node b) where
     pub covers-skip : s .b - 1 ≤ at → Covers s node (owed - 1) next (at - (s .b - 1) + len)
     covers-skip h = rw el (record { walks = walks-rest; room = omega (arith, room-rest (at + len) room) })
 
-    pub covers-rest : (k : ℕ) (mid : List ℕ) → at < s .b - 1 → k ≡ length (piece s node b at len) → length mid ≡ len → Covers s node (owed - 1) next (0 + length (part mid k len))
-    covers-rest k mid h ek em =
-        let i = head-in in
-        let m : length (piece s node b at len) ≤ len = piece-most at len in
-        let z : min len (s .b - 1 - at) ≡ length (piece s node b at len) =
-        piece-long s node (ws .stretch) b (i .0) (i .1) at h len (min len (s .b - 1 - at)) (blockAt s b + at) refl refl in
-        rw (el, length-part mid k len (omega arith) (omega arith)) (record { walks = walks-rest; room = omega (arith, room-rest (at + len) room) })
+    pub covers-rest : (k : ℕ) → at < s .b - 1 → k ≡ min len (s .b - 1 - at) → Covers s node (owed - 1) next (0 + (len - k))
+    covers-rest k h ek = rw el (record { walks = walks-rest; room = omega (arith, room-rest (at + len) room) })
 
 -- an out that has words needs blocks
 pub covers-some : (s : Settings) (node : List ℕ) (owed b n : ℕ) → Covers s node owed b n → 1 ≤ n → 1 ≤ owed
@@ -195,11 +145,10 @@ covers-some s node (suc owed) b n c h = omega arith
 -- ---- one step of the reader
 -- a block's link, counted from the word before the first block
 pub link-from : (s : Settings) → InRange s → (b : ℕ) → 1 ≤ b → linkFrom (blockAt s 1 - 1) (s .b - 1) b ≡ linkAt s b
-unfolding blockAt blocksAt
 link-from s r b low =
     let w = r .b .low in
     let e : s .b - 1 + 1 ≡ s .b = omega arith in
-    omega (arith, suc-mul (b - 1) (s .b), ap (λ (k : ℕ). k * s .b) (down b low), ap (λ (k : ℕ). b * k) e)
+    ap (λ (k : ℕ). blockAt s 1 - 1 + b * k) e ∙ link-counted s r b low
 
 pub first-block : (s : Settings) → InRange s → (first : ℕ) → first ≡ blockAt s 1 → (1 ≤ first) × (first ≤ 85274)
 unfolding blockAt blocksAt
@@ -227,11 +176,6 @@ stepped s stretch owed b at left first k next r c ef er e =
       carries = w .1;
       follows = w .2 ∙ ap (λ (f : ℕ). getD stretch (linkFrom (f - 1) (s .b - 1) b) 0) ef ∙ ap (λ (a : ℕ). getD stretch a 0) (link-from s (c .walks .stretch .range) b (i .0));
     }
-
--- the end: out has no word
-pub read-none : (node : List ℕ) (b at before room : ℕ) (out l : List ℕ) (r : Step) → r ≡ stepAt node b (length out) at before room → r ≡ End → out ≡ take (length out) l
-read-none node b at before room [] l r er e = refl
-read-none node b at before room (x ∷ out) l r er e = let z = step-end node b (length (x ∷ out)) at before room (sym er ∙ e) in absurd (omega arith)
 
 -- ---- one word
 pub needs-suc : (s : Settings) → 2 ≤ s .b → (k : ℕ) → needs s (k + 1) ≡ k / (s .b - 1) + 1
@@ -265,26 +209,17 @@ module _ (s : Settings) (node : List ℕ) (k b : ℕ) (l : Lies s node (k + 1) b
   word-is owner at e q =
       let n : k / (s .b - 1) + 1 - 1 ≡ k / (s .b - 1) = omega arith in
       ap (λ (i : ℕ). getD node (i + k % (s .b - 1)) 0) (q ∙ ap (blockAt s) (e ∙ ap (λ (i : ℕ). after s node i b) n))
-
   -- a word that the first block carries
-  module _ (near : k < s .b - 1) where
-    pub near-in : (1 ≤ b) × (b ≤ s .m)
-    unfolding after
-    near-in = owner-in b (rw (div-eq-of-lt near))
-
-    pub near-is : (at : ℕ) → at ≡ blockAt s b → getD node (at + k) 0 ≡ word s node b k
-    near-is at q = rw q (sym (word-near s node b k near))
 
 -- ---- the whole letter
 pub covers-lies : (s : Settings) (node : List ℕ) (n b owed : ℕ) → Lies s node n b → owed ≡ needs s n → Covers s node owed b n
 covers-lies s node n b owed l e = rw e (record { walks = l .walks; room = needs-enough s (l .walks .stretch .range) n })
 
-pub letter-part : (s : Settings) (node : List ℕ) (at len b owed : ℕ) (r : List ℕ) → owed ≡ needs s (at + len) → r ≡ take len (drop at (text s node (chain s node owed b))) → r ≡ drop at (letter s node (at + len) b)
+pub letter-part : (s : Settings) (node : List ℕ) (at len b : ℕ) → take len (drop at (text s node (chain s node (needs s (at + len)) b))) ≡ drop at (letter s node (at + len) b)
 unfolding letter
-letter-part s node at len b owed r e q =
+letter-part s node at len b =
     let z : at + len - at ≡ len = omega arith in
-    q ∙ ap (λ (o : ℕ). take len (drop at (text s node (chain s node o b)))) e
-    ∙ sym (drop-take at (at + len) (text s node (chain s node (needs s (at + len)) b)) ∙ ap (λ (i : ℕ). take i (drop at (text s node (chain s node (needs s (at + len)) b)))) z)
+    sym (drop-take at (at + len) (text s node (chain s node (needs s (at + len)) b)) ∙ ap (λ (i : ℕ). take i (drop at (text s node (chain s node (needs s (at + len)) b)))) z)
 
 -- ---- one step of writing
 module _ (s : Settings) (node : List ℕ) (owed b : ℕ) (walk : Walks s node owed b) (ws : List ℕ) where
@@ -292,7 +227,7 @@ module _ (s : Settings) (node : List ℕ) (owed b : ℕ) (walk : Walks s node ow
   unfolding laid
   laid-none e = ap (λ (k : ℕ). laid s node k b ws) e
 
-  module _ (some : 1 ≤ owed) (next k : ℕ) (mid : List ℕ) (el : next ≡ link s node b) (ek : k ≡ length (take (s .b - 1) ws)) (em : mid ≡ sets node (blockAt s b) (take (s .b - 1) ws)) where
+  module _ (some : 1 ≤ owed) (next : ℕ) (mid : List ℕ) (el : next ≡ link s node b) (em : mid ≡ sets node (blockAt s b) (take (s .b - 1) ws)) where
     pub walks-laid : Walks s mid (owed - 1) next
     walks-laid =
         let i = head-in s node owed b walk some in
@@ -303,17 +238,10 @@ module _ (s : Settings) (node : List ℕ) (owed b : ℕ) (walk : Walks s node ow
           within = rw (block-chain s (walk .stretch .range) node b ws (owed - 1) (link s node b) (i .0) (w .within)) (w .within);
         })
 
-    -- what is left of the words
-    pub words-rest : part ws k (length ws) ≡ drop (s .b - 1) ws
-    words-rest =
-        take-all (length ws - k) (drop k ws) (rw length-drop (omega arith))
-        ∙ ap (λ (i : ℕ). drop i ws) ek ∙ drop-front (s .b - 1) ws
-
-    pub laid-step : (l : List ℕ) → l ≡ laid s mid (owed - 1) next (part ws k (length ws)) → l ≡ laid s node owed b ws
+    pub laid-step : laid s mid (owed - 1) next (drop (s .b - 1) ws) ≡ laid s node owed b ws
     unfolding laid
-    laid-step l q =
-        q ∙ ap (laid s mid (owed - 1) next) words-rest
-        ∙ ap₂ (λ (m : List ℕ) (x : ℕ). laid s m (owed - 1) x (drop (s .b - 1) ws)) em el
+    laid-step =
+        ap₂ (λ (m : List ℕ) (x : ℕ). laid s m (owed - 1) x (drop (s .b - 1) ws)) em el
         ∙ sym (ap (λ (i : ℕ). laid s node i b ws) (down owed some))
 
 -- ---- a node's stretch, by its place and size as the code computes them

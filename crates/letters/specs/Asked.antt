@@ -1,8 +1,8 @@
 -- What a sound memory gives, and the functions on letters ask for.
 use mathlib.Core.List.{List}
-use Prim.Native.Nat.{ℕ, _-_, _*_, _≤_, _<_}
+use Prim.Native.Nat.{ℕ, _+_, _-_, _≤_, _<_}
 use Rattle.settings.specs.declared.Settings.{Settings}
-use Rattle.layout.specs.Numbers.{greatestLength}
+use Rattle.layout.specs.Numbers.{headerWords, greatestLength}
 use Rattle.blocks.specs.Chain.{needs}
 use Rattle.blocks.specs.Asked.{Block, Walks}
 
@@ -16,7 +16,7 @@ pub record Carries (s : Settings) (stretch : List ℕ) (b at : ℕ) : Type 0 whe
   pub block : Block s stretch b
   pub inside : at < s .b - 1
 
--- the blocks from b on, `owed` of them, have so many words
-pub record Covers (s : Settings) (stretch : List ℕ) (owed b words : ℕ) : Type 0 where
-  pub walks : Walks s stretch owed b
-  pub room : words ≤ owed * (s .b - 1)
+-- a letter with a body of n words has a word k, and no more words than a letter may have
+pub record HasWord (n k : ℕ) : Type 0 where
+  pub inside : k < headerWords + n
+  pub most : headerWords + n ≤ greatestLength

@@ -3,17 +3,17 @@ use reading::Step;
 use settings::Settings;
 ghost use mathlib.Core.Path.{_≡_};
 ghost use Prim.Native.Nat.{_+_, _-_, min};
-ghost use lib.ListN.{length, take, drop};
+ghost use lib.ListN.{length, getD, take, drop};
 ghost use lib.Seq.{sets};
 ghost use Rattle.layout.specs.Places.{blockAt};
 ghost use Rattle.layout.specs.Numbers.{headerWords};
-ghost use Rattle.blocks.specs.Chain.{chain, text};
-ghost use Rattle.blocks.specs.Asked.{Block, Walks};
-ghost use Rattle.letters.specs.Letter.{onto, word, told, letter, piece, laid, written};
-ghost use Rattle.letters.specs.Asked.{Lies, Carries, Covers};
+ghost use Rattle.blocks.specs.Asked.{Block};
+ghost use Rattle.letters.specs.Letter.{onto, word, told, letter, piece, written};
+ghost use Rattle.letters.specs.Made.{letterOf};
+ghost use Rattle.letters.specs.Asked.{Lies, Carries, HasWord};
 
-// Word k of the letter that block b begins, found through its chain.
-fn word_through(node: &[u32], s: Settings, b: u32, k: usize) -> u32
+// Word k of the letter that block b begins.
+pub fn word_of(node: &[u32], s: Settings, b: u32, k: usize) -> u32
     requires { ⌜ Lies s (now node) (k + 1) b ⌝ }
     ensures { λ r. ⌜ r ≡ word s (now (node .entry)) b k ⌝ }
 {
@@ -21,18 +21,6 @@ fn word_through(node: &[u32], s: Settings, b: u32, k: usize) -> u32
     let owner = blocks::last_of(node, s, b, k / room + 1);
     let at = layout::block_at(s, owner as usize);
     node[at + k % room]
-}
-
-// Word k of the letter that block b begins: mostly the first block carries it, and no link is followed.
-pub fn word_of(node: &[u32], s: Settings, b: u32, k: usize) -> u32
-    requires { ⌜ Lies s (now node) (k + 1) b ⌝ }
-    ensures { λ r. ⌜ r ≡ word s (now (node .entry)) b k ⌝ }
-{
-    if k < s.b - 1 {
-        let at = layout::block_at(s, b as usize);
-        return node[at + k];
-    }
-    word_through(node, s, b, k)
 }
 
 // The length that the header tells, of the letter that block b begins.
@@ -64,67 +52,91 @@ pub fn read_block(node: &[u32], s: Settings, b: u32, at: usize, out: &mut [u32])
     n
 }
 
-// The words from word `at` on of the chain of `owed` blocks from b on, as many as `out` has.
-pub fn read_chain(node: &[u32], s: Settings, b: u32, owed: usize, at: usize, out: &mut [u32])
-    requires { ⌜ Covers s (now node) owed b (at + length (now out)) ⌝ }
-    ensures { λ _. ⌜ now (out .exit) ≡ take (length (now (out .entry))) (drop at (text s (now (node .entry)) (chain s (now (node .entry)) owed b))) ⌝ }
-{
-    let end = out.len();
-    let room = s.b - 1;
-    let before = layout::block_at(s, 1) - 1;
-    let Step::Words(k, next) = reading::first(node, b, end, at, before as u32, room as u32) else {
-        return;
-    };
-    if k == 0 {
-        read_chain(node, s, next, owed - 1, at - room, out);
-    } else {
-        read_block(node, s, b, at, out);
-        read_chain(node, s, next, owed - 1, 0, &mut out[k..end]);
-    }
-}
-
-// The words from word `at` on of the letter that block b begins, as many as `out` has.
+// The words from word `at` on of the letter that block b begins, as many as `out` has. A block that lies wholly before them is passed over.
 pub fn read(node: &[u32], s: Settings, b: u32, at: usize, out: &mut [u32])
     requires { ⌜ Lies s (now node) (at + length (now out)) b ⌝ }
     ensures { λ _. ⌜ now (out .exit) ≡ drop at (letter s (now (node .entry)) (at + length (now (out .entry))) b) ⌝ }
 {
-    let owed = blocks::needs_of(s, at + out.len());
-    read_chain(node, s, b, owed, at, out);
-}
-
-// Writes the first of the words into block b, as many as it carries; how many they are.
-pub fn write_block(node: &mut [u32], s: Settings, b: u32, words: &[u32]) -> usize
-    requires { ⌜ Block s (now node) b ⌝ }
-    ensures answer { λ r. ⌜ r ≡ length (take (s .b - 1) (now (words .entry))) ⌝ }
-    ensures stored { λ _. ⌜ now (node .exit) ≡ sets (now (node .entry)) (blockAt s b) (take (s .b - 1) (now (words .entry))) ⌝ }
-{
+    let end = out.len();
     let room = s.b - 1;
-    let n = fewer(words.len(), room);
-    let a = layout::block_at(s, b as usize);
-    let e = a + n;
-    words::copy(&mut node[a..e], &words[0..n]);
-    n
-}
-
-// Lays the words into the chain of `owed` blocks from b on.
-pub fn write_chain(node: &mut [u32], s: Settings, b: u32, owed: usize, words: &[u32])
-    requires { ⌜ Walks s (now node) owed b ⌝ }
-    ensures { λ _. ⌜ now (node .exit) ≡ laid s (now (node .entry)) owed b (now (words .entry)) ⌝ }
-{
-    if owed == 0 {
-        return;
+    let before = layout::block_at(s, 1) - 1;
+    let mut block = b;
+    let mut skip = at;
+    let mut done = 0;
+    while done < end {
+        let Step::Words(k, next) = reading::first(
+            node,
+            block,
+            end - done,
+            skip,
+            before as u32,
+            room as u32,
+        ) else {
+            return;
+        };
+        if k == 0 {
+            skip -= room;
+        } else {
+            read_block(node, s, block, skip, &mut out[done..end]);
+            skip = 0;
+            done += k;
+        }
+        block = next;
     }
-    let next = blocks::link_of(node, s, b);
-    let k = write_block(node, s, b, words);
-    let end = words.len();
-    write_chain(node, s, next, owed - 1, &words[k..end]);
 }
 
-// Writes a letter's words into the chain that block b begins.
-pub fn write(node: &mut [u32], s: Settings, b: u32, words: &[u32])
-    requires { ⌜ Lies s (now node) (length (now words)) b ⌝ }
-    ensures { λ _. ⌜ now (node .exit) ≡ written s (now (node .entry)) b (now (words .entry)) ⌝ }
+// The two tasks of a letter, each with its node.
+pub struct Header {
+    pub source: u32,
+    pub from: u32,
+    pub destination: u32,
+    pub to: u32,
+}
+
+// Word k of a letter: the header's five, then the body's.
+fn letter_word(h: Header, body: &[u32], k: usize) -> u32
+    requires { ⌜ HasWord (length (now body)) k ⌝ }
+    ensures { λ r. ⌜ r ≡ getD (letterOf h (now (body .entry))) k 0 ⌝ }
 {
-    let owed = blocks::needs_of(s, words.len());
-    write_chain(node, s, b, owed, words);
+    match k {
+        0 => h.source,
+        1 => h.from,
+        2 => h.destination,
+        3 => h.to,
+        4 => (5 + body.len()) as u32,
+        _ => body[k - 5],
+    }
+}
+
+// Writes the letter's words from word k on into block b, as many as it carries.
+fn write_block(node: &mut [u32], s: Settings, b: u32, h: Header, body: &[u32], k: usize)
+    requires { ⌜ Block s (now node) b ⌝ }
+    requires { ⌜ HasWord (length (now body)) k ⌝ }
+    ensures { λ _. ⌜ now (node .exit) ≡ sets (now (node .entry)) (blockAt s b) (take (s .b - 1) (drop k (letterOf h (now (body .entry))))) ⌝ }
+{
+    let left = 5 + body.len() - k;
+    let n = fewer(left, s.b - 1);
+    let a = layout::block_at(s, b as usize);
+    let mut i = 0;
+    while i < n {
+        node[a + i] = letter_word(h, body, k + i);
+        i += 1;
+    }
+}
+
+// Writes a letter into the chain that block b begins.
+pub fn write(node: &mut [u32], s: Settings, b: u32, h: Header, body: &[u32])
+    requires { ⌜ Lies s (now node) (headerWords + length (now body)) b ⌝ }
+    ensures { λ _. ⌜ now (node .exit) ≡ written s (now (node .entry)) b (letterOf h (now (body .entry))) ⌝ }
+{
+    let mut owed = blocks::needs_of(s, 5 + body.len());
+    let mut block = b;
+    let mut k = 0;
+    while 0 < owed {
+        let next = blocks::link_of(node, s, block);
+        write_block(node, s, block, h, body, k);
+        block = next;
+        k += s.b - 1;
+        owed -= 1;
+    }
 }

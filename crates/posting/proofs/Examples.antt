@@ -8,14 +8,14 @@ use Rattle.layout.specs.Places.{roomAt, sendAt, taskAt, gapWord, blocksAt, bloc
 use Rattle.words.specs.Words.{more}
 use Rattle.blocks.specs.Chain.{needs, list, chain, text, free}
 use Rattle.blocks.specs.Moves.{enough, taken, takenFrom}
+use Rattle.letters.specs.declared.Header.{Header}
 use Rattle.letters.specs.Letter.{letter, laid}
+use Rattle.letters.specs.Made.{letterOf}
 use Rattle.queues.specs.Queue.{sendKind, taskKind, run, contents}
 use Rattle.queues.specs.Items.{live}
 use Rattle.queues.specs.Moves.{counted, added, appended, appendAnswer}
 use Rattle.gaps.specs.Close.{laid as laidRow, closed, cramped, roomy}
-use Rattle.posting.specs.Letter.{letterOf}
 use Rattle.posting.specs.Post.{Posted, hasRoom, appendedTo, fullOf, putIn, posted}
-use Rattle.posting.specs.declared.Header.{Header}
 use Rattle.posting.specs.declared.Goal.{Goal}
 use Rattle.posting.specs.declared.Goal.the-variants.{Task, Node}
 use Rattle.posting.specs.declared.Sent.the-variants.{Done, TooFewBlocks, QueueFull}

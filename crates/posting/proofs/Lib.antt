@@ -1,4 +1,3 @@
 pub mod Rooms
 pub mod Frames
-pub mod Laid
 pub mod Examples

@@ -1,17 +1,18 @@
 // Posting: a letter is put into a node's stretch, or refused there.
 use blocks::Taken;
+use letters::Header;
 use settings::Settings;
 ghost use mathlib.Core.Path.{_≡_};
-ghost use Prim.Native.Nat.{_+_, _≤_};
+ghost use Prim.Native.Nat.{_+_};
 ghost use lib.ListN.{length};
-ghost use Rattle.layout.specs.Numbers.{headerWords, greatestLength};
+ghost use Rattle.layout.specs.Numbers.{headerWords};
 ghost use Rattle.blocks.specs.Asked.{Takes};
 ghost use Rattle.blocks.specs.Moves.{enough};
+ghost use Rattle.letters.specs.Made.{letterOf};
 ghost use Rattle.queues.specs.Queue.{Queue, sendKind};
 ghost use Rattle.queues.specs.Tasks.{TaskQueue};
 ghost use Rattle.queues.specs.Moves.{counted, appendAnswer};
 ghost use Rattle.gaps.specs.Close.{taskAnswer};
-ghost use Rattle.posting.specs.Letter.{letterOf};
 ghost use Rattle.posting.specs.Post.{tookIt, hasRoom, appendedTo, fullOf, putIn, posted};
 ghost use Rattle.posting.specs.Asked.{Aims, Posts, Roomy};
 
@@ -30,14 +31,6 @@ pub enum Sent {
 pub enum Goal {
     Task(usize),
     Node(usize),
-}
-
-// The two tasks of a letter, each with its node.
-pub struct Header {
-    pub source: u32,
-    pub from: u32,
-    pub destination: u32,
-    pub to: u32,
 }
 
 // Whether the free list has n blocks.
@@ -113,25 +106,25 @@ fn append_to(node: &mut [u32], s: Settings, goal: Goal, b: u32)
     }
 }
 
-// Takes blocks, writes the words and appends the first block.
-fn put_in(node: &mut [u32], s: Settings, goal: Goal, words: &[u32])
-    requires { ⌜ Roomy s (now node) goal (length (now words)) ⌝ }
-    ensures { λ _. ⌜ now (node .exit) ≡ putIn s (now (node .entry)) goal (now (words .entry)) ⌝ }
+// Takes blocks, writes the letter and appends the first block.
+fn put_in(node: &mut [u32], s: Settings, goal: Goal, header: Header, body: &[u32])
+    requires { ⌜ Roomy s (now node) goal (headerWords + length (now body)) ⌝ }
+    ensures { λ _. ⌜ now (node .exit) ≡ putIn s (now (node .entry)) goal (letterOf header (now (body .entry))) ⌝ }
 {
-    let n = blocks::needs_of(s, words.len());
+    let n = blocks::needs_of(s, 5 + body.len());
     let Taken::First(first) = blocks::take(node, s, n) else {
         return;
     };
-    letters::write(node, s, first, words);
+    letters::write(node, s, first, header, body);
     append_to(node, s, goal, first);
 }
 
 // Puts a letter into the stretch, or counts what was wanting: blocks, or room in the queue.
-pub fn post(node: &mut [u32], s: Settings, goal: Goal, words: &[u32]) -> Sent
-    requires { ⌜ Posts s (now node) goal (length (now words)) ⌝ }
-    ensures { λ r. ⌜ record { answer = r; stretch = now (node .exit) } ≡ posted s (now (node .entry)) goal (now (words .entry)) ⌝ }
+pub fn post(node: &mut [u32], s: Settings, goal: Goal, header: Header, body: &[u32]) -> Sent
+    requires { ⌜ Posts s (now node) goal (headerWords + length (now body)) ⌝ }
+    ensures { λ r. ⌜ record { answer = r; stretch = now (node .exit) } ≡ posted s (now (node .entry)) goal (letterOf header (now (body .entry))) ⌝ }
 {
-    let n = blocks::needs_of(s, words.len());
+    let n = blocks::needs_of(s, 5 + body.len());
     let took = n as u32;
     if !has_blocks(node, s, n) {
         queues::count_up(node, 1);
@@ -141,21 +134,6 @@ pub fn post(node: &mut [u32], s: Settings, goal: Goal, words: &[u32]) -> Sent
         count_full(node, s, goal);
         return Sent::QueueFull;
     }
-    put_in(node, s, goal, words);
+    put_in(node, s, goal, header, body);
     Sent::Done(took)
-}
-
-// The words of a letter: the header, then the body.
-pub fn lay_letter(words: &mut [u32], header: Header, body: &[u32])
-    requires { ⌜ length (now words) ≡ headerWords + length (now body) ⌝ }
-    requires { ⌜ length (now words) ≤ greatestLength ⌝ }
-    ensures { λ _. ⌜ now (words .exit) ≡ letterOf header (now (body .entry)) ⌝ }
-{
-    let end = words.len();
-    words[0] = header.source;
-    words[1] = header.from;
-    words[2] = header.destination;
-    words[3] = header.to;
-    words[4] = end as u32;
-    words::copy(&mut words[5..end], body);
 }

@@ -5,8 +5,7 @@ use mathlib.Core.List.{List}
 use Prim.Native.Nat.{ℕ, _+_, _-_, _≤_, _<_}
 use native.Mathlib.Omega.{arith}
 use lib.Dec.{leb}
-use lib.ListN.{length, take}
-use lib.Seq.{length-take-le}
+use lib.ListN.{length}
 use borrow.Author.Tests.{le-leb, lt-leb, leb-true, eq-eqb, ne-eqb}
 use borrow.Rule.Slice.PartMut.{putMid}
 use Rattle.words.specs.Words.{part, splice}
@@ -24,7 +23,7 @@ use Rattle.blocks.specs.Chain.{needs}
 use Rattle.sound.specs.Reading.{settingsIn, tableIn}
 use Rattle.sound.specs.Sound.{sound}
 use Rattle.sound.proofs.Gives.{gives-table, gives-sized, gives-stretch, gives-send, gives-task, gives-free}
-use Rattle.posting.specs.Letter.{letterOf}
+use Rattle.letters.specs.Made.{letterOf}
 use Rattle.posting.specs.Post.{Posted, posted}
 use Rattle.posting.specs.Asked.{Queued, Posts}
 use Rattle.posting.specs.declared.Goal.{Goal}
@@ -76,17 +75,6 @@ module _ (s : Settings) (memory : List ℕ) (i a size : ℕ) (ea : a ≡ nodeAt 
       let f : record { answer = r; stretch = p } ≡ o = e ∙ ap (λ (l : List ℕ). posted s l goal ws) lent in
       ap₂ (λ (x : Sent) (y : List ℕ). refusedBy x y) (ap (λ (x : Posted). x .answer) f)
       (back a (a + size) memory (omega arith) (ap (λ (x : Posted). x .stretch) f) ∙ ap₂ (λ (k z : ℕ). splice memory k (k + z) (o .stretch)) ea es)
-
--- ---- the side row
-module _ (s : Settings) (memory : List ℕ) (i : ℕ) (goal : Goal) where
-  pub delivers-laid : (m n : ℕ) → m ≡ n → Delivers s memory i goal n → Delivers s memory i goal m
-  delivers-laid m n e d = rw e d
-
-  -- a side row that has room for every letter has room for this one
-  pub side-room : (n : ℕ) (side : List ℕ) → n ≤ length side → Delivers s memory i goal n → Delivers s memory i goal (length (take (n - 0) side)) × (length (take (n - 0) side) ≡ n)
-  side-room n side z d =
-      let e : length (take (n - 0) side) ≡ n = length-take-le (n - 0) side (omega arith) ∙ omega arith in
-      (delivers-laid (length (take (n - 0) side)) n e d, e)
 
 -- ---- a sound memory
 module _ (memory : List ℕ) (e : sound memory ≡ true) where

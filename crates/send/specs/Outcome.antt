@@ -13,7 +13,8 @@ use Rattle.sound.specs.Reading.{settingsIn, tableIn}
 use Rattle.sound.specs.Sound.{sound}
 use Rattle.answers.specs.declared.Answer.{Answer}
 use Rattle.answers.specs.Numbers.{bare, done, notSound, firstNotBound, otherNotBound, bodyTooLong, tooFewBlocks, queueFull}
-use Rattle.posting.specs.Letter.{letterOf, headerOf}
+use Rattle.letters.specs.Made.{letterOf}
+use Rattle.posting.specs.Letter.{headerOf}
 use Rattle.posting.specs.Post.{posted}
 use Rattle.posting.specs.declared.Goal.{Goal}
 use Rattle.posting.specs.declared.Goal.the-variants.{Task, Node}

@@ -1,7 +1,7 @@
 // Send: the call that takes blocks, writes a letter and appends it.
 use answers::Answer;
+use letters::Header;
 use posting::Goal;
-use posting::Header;
 use posting::Sent;
 use settings::Settings;
 use tasks::Seat;
@@ -11,8 +11,8 @@ ghost use Prim.Native.Nat.{_+_};
 ghost use lib.ListN.{length};
 ghost use Rattle.settings.specs.Range.{InRange};
 ghost use Rattle.layout.specs.Numbers.{headerWords};
+ghost use Rattle.letters.specs.Made.{letterOf};
 ghost use Rattle.sound.specs.Sound.{sound};
-ghost use Rattle.posting.specs.Letter.{letterOf};
 ghost use Rattle.send.specs.Outcome.{told, fits, goalOf, postedIn, send};
 ghost use Rattle.send.specs.Asked.{Delivers};
 
@@ -38,46 +38,14 @@ fn goal_of(from: u32, to: u32, queue: u32) -> Goal
     }
 }
 
-// Posts a letter's words in node i: its stretch alone is lent.
-fn deliver(memory: &mut [u32], s: Settings, i: usize, goal: Goal, words: &[u32]) -> Sent
-    requires { ⌜ Delivers s (now memory) i goal (length (now words)) ⌝ }
-    ensures { λ r. ⌜ record { answer = r; memory = now (memory .exit) } ≡ postedIn s (now (memory .entry)) i goal (now (words .entry)) ⌝ }
-{
-    let size = layout::node_size(s);
-    let a = layout::node_at(s, i);
-    let e = a + size;
-    posting::post(&mut memory[a..e], s, goal, words)
-}
-
-// Makes the letter in a side row of its length, and posts it in the source's node.
-fn send_through(
-    memory: &mut [u32],
-    s: Settings,
-    header: Header,
-    goal: Goal,
-    body: &[u32],
-    side: &mut [u32],
-) -> Sent
-    requires { ⌜ Delivers s (now memory) (header .from) goal (length (now side)) ⌝ }
-    requires { ⌜ length (now side) ≡ headerWords + length (now body) ⌝ }
-    ensures { λ r. ⌜ record { answer = r; memory = now (memory .exit) } ≡ postedIn s (now (memory .entry)) (header .from) goal (letterOf header (now (body .entry))) ⌝ }
-{
-    posting::lay_letter(side, header, body);
-    deliver(memory, s, header.from as usize, goal, side)
-}
-
-// Makes the letter and posts it in the source's node. A short one is made in a short row, which is sooner filled with zeroes.
+// Posts a letter in the source's node: its stretch alone is lent.
 fn send_letter(memory: &mut [u32], s: Settings, header: Header, goal: Goal, body: &[u32]) -> Sent
     requires { ⌜ Delivers s (now memory) (header .from) goal (headerWords + length (now body)) ⌝ }
     ensures { λ r. ⌜ record { answer = r; memory = now (memory .exit) } ≡ postedIn s (now (memory .entry)) (header .from) goal (letterOf header (now (body .entry))) ⌝ }
 {
-    let n = 5 + body.len();
-    if n <= 64 {
-        let mut few = [0u32; 64];
-        return send_through(memory, s, header, goal, body, &mut few[0..n]);
-    }
-    let mut side = [0u32; 1024];
-    send_through(memory, s, header, goal, body, &mut side[0..n])
+    let a = layout::node_at(s, header.from as usize);
+    let e = a + layout::node_size(s);
+    posting::post(&mut memory[a..e], s, goal, header, body)
 }
 
 // Send, in a sound memory.

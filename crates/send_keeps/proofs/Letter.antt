@@ -12,7 +12,8 @@ use Rattle.layout.proofs.NodeRows.{by-send, by-task}
 use Rattle.tasks.specs.Table.{nodeOf, queueOf, isBound, rightTable}
 use Rattle.sound.specs.Queues.{taskOf}
 use Rattle.sound.specs.Letters.{rightHeader, fromTo, rightPlace}
-use Rattle.posting.specs.Letter.{letterOf, headerOf}
+use Rattle.letters.specs.Made.{letterOf}
+use Rattle.posting.specs.Letter.{headerOf}
 use Rattle.machine.specs.Represents.{Right}
 use Rattle.moves.proofs.Seats.{task-is}
 

@@ -22,7 +22,8 @@ use Rattle.gaps.specs.Close.{taskAppended}
 use Rattle.sound.specs.Reading.{settingsIn, tableIn}
 use Rattle.sound.specs.Queues.{taskOf}
 use Rattle.sound.specs.Sound.{sound}
-use Rattle.posting.specs.Letter.{letterOf, headerOf}
+use Rattle.letters.specs.Made.{letterOf}
+use Rattle.posting.specs.Letter.{headerOf}
 use Rattle.posting.specs.Post.{Posted, hasRoom, appendedTo, fullOf, putIn}
 use Rattle.posting.proofs.Frames.{post-few, post-full, post-done}
 use Rattle.posting.specs.declared.Goal.{Goal}

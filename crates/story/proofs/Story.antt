@@ -26,7 +26,7 @@ use Rattle.sound.specs.Letters.{wordsFrom}
 use Rattle.setup.specs.declared.SetUp.the-variants.{Done as SetUp-done}
 use Rattle.setup.specs.Outcome.{setUp}
 use Rattle.setup.specs.Fresh.{nextFree, freshBlock, freshBlocks, freshFront, freshNode, freshNodes, freshHead, freshMemory}
-use Rattle.posting.specs.Letter.{letterOf}
+use Rattle.letters.specs.Made.{letterOf}
 use Rattle.posting.specs.Post.{hasRoom, appendedTo, fullOf, putIn, posted}
 use Rattle.send.specs.Outcome.{fits, goalOf, postedIn, delivered as sendDelivered}
 use Rattle.receive.specs.Take.{filled, inVain, emptied, tookAt, took}

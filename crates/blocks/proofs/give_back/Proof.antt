@@ -6,8 +6,8 @@ use borrow.Author.Needs.{needs}
 use Rattle.blocks.proofs.give_back.Statement.{statement}
 use Rattle.blocks.proofs.give_back.Tie as tie
 
-end-of-requires : tie.Need-end-of-requires
-end-of-requires c κs = search needs
+last-of-requires : tie.Need-last-of-requires
+last-of-requires c κs = search needs
 
 slice-read-first : tie.Need-slice-read-first
 slice-read-first c = let x = c .before .before .before .before in omega (arith, head-fits (x .args .s))
@@ -15,7 +15,7 @@ slice-read-first c = let x = c .before .before .before .before in omega (arith, 
 set-link-requires : tie.Need-set-link-requires
 set-link-requires c κs =
     let x = c .before .before .before .before .before in
-    is-block _ _ _ (x .pre .0 .stretch) (rw (c .before .before .end-of .ensures) (last-in (x .args .s) (x .args .node .now) (x .args .s .m) (x .args .owed) (x .args .b) (x .pre .1) (x .pre .0 .within)))
+    is-block _ _ _ (x .pre .0 .stretch) (rw (c .before .before .last-of .ensures) (last-in (x .args .s) (x .args .node .now) (x .args .s .m) (x .args .owed) (x .args .b) (x .pre .1) (x .pre .0 .within)))
 
 slice-write-node : tie.Need-slice-write-node
 slice-write-node c = let x = c .before .before .before .before .before .before .before .before in omega (arith, head-fits (x .args .s))
@@ -31,7 +31,7 @@ pub give-back-spec : {M : Type 1} → statement M
 give-back-spec =
     tie.close
     (tie.spec
-    end-of-requires
+    last-of-requires
     slice-read-first
     set-link-requires
     slice-write-node

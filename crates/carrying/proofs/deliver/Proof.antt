@@ -1,7 +1,9 @@
 -- `carrying::deliver` meets its contract. Assumes nothing.
+use mathlib.Core.Path.{_∙_}
 use borrow.Author.Needs.{needs}
+use Rattle.stages_keep.specs.Steps.{delivered}
 use Rattle.carrying.proofs.Asks.{deliver-there, deliver-hand}
-use Rattle.carrying.proofs.Ways.{delivered-stop, delivered-go}
+use Rattle.carrying.proofs.Ways.{stage-stop, stage-go}
 use Rattle.carrying.proofs.deliver.Statement.{statement}
 use Rattle.carrying.proofs.deliver.Tie as tie
 
@@ -9,17 +11,15 @@ stop-requires : tie.Need-stop-requires
 stop-requires c κs = let x = c .before .before .before .before .before .before .before in deliver-there (x .args .s) (x .args .memory .now) (x .args .j) (x .args .i) (x .args .c) (x .args .r) (x .pre)
 
 returns : tie.Need-returns
-returns c =
-    let x = c .before .before .before .before .before .before .before .before in
-    delivered-stop (x .args .s) (x .args .j) (x .args .memory .now) (x .args .i) (x .args .r) (x .args .c) (c .before .before .before .before .before .put-task .ensures) (c .before .enum-told2 .given .1) (c .stop .ensures)
+unfolding delivered
+returns c = stage-stop _ _ (c .before .before .before .before .before .put-task .ensures) (c .before .enum-told2 .given .1) (c .stop .ensures)
 
 hand-on-requires : tie.Need-hand-on-requires
 hand-on-requires c κs = let x = c .before .before .before .before .before .before .before .before .before in deliver-hand (x .args .s) (x .args .memory .now) (x .args .j) (x .args .i) (x .args .c) (x .args .r) (x .pre) (c .before .before .before .before .before .before .put-task .ensures) (c .before .before .enum-told .given .1)
 
 returns-2 : tie.Need-returns-2
-returns-2 c =
-    let x = c .before .before .before .before .before .before .before .before .before .before .before .before in
-    delivered-go (x .args .s) (x .args .j) (x .args .memory .now) (x .args .i) (x .args .r) (x .args .c) (c .before .before .before .before .before .before .before .before .before .put-task .ensures) (c .before .before .before .before .before .enum-told .given .1) (c .before .before .before .before .one-letter .ensures) (c .before .before .hand-on .ensures)
+unfolding delivered
+returns-2 c = stage-go _ _ (c .before .before .before .before .before .before .before .before .before .put-task .ensures) (c .before .before .before .before .before .enum-told .given .1) (c .before .before .hand-on .ensures ∙ rw (c .before .before .before .before .one-letter .ensures))
 
 pub deliver-spec : {M : Type 1} → statement M
 deliver-spec =

@@ -1,11 +1,11 @@
--- `copying::move_words` meets its contract: after k words the first k stand, and the last four make them n. Assumes nothing.
+-- `copying::move_words` meets its contract: after k turns the first k words stand. Assumes nothing.
 use mathlib.Core.Path.{_≡_, refl, _∙_}
 use Prim.Native.Nat.{_+_, _-_, _≤_}
 use native.Mathlib.Omega.{arith}
-use lib.ListN.{length, take}
+use lib.ListN.{length, take, length-set}
 use lib.Seq.{sets}
 use Rattle.words.specs.Words.{part}
-use Rattle.copying.proofs.Moving.{four-moves, moved-four, moved-all}
+use Rattle.copying.proofs.Moving.{moved-more, moved-all}
 use Rattle.copying.proofs.move_words.Statement.{statement}
 use Rattle.copying.proofs.move_words.Tie as tie
 
@@ -19,32 +19,23 @@ abbrev μ-loop : tie.MeasureT-loop
 loop-holds : tie.Need-loop-holds Inv-loop μ-loop
 loop-holds c = (omega arith, refl, refl)
 
-move-four-requires : tie.Need-move-four-requires Inv-loop μ-loop
-move-four-requires c κs =
-    let x = c .before .before .before .before .before in
-    let l = c .before .before .loop in
-    four-moves (x .args .memory .now) (x .args .from) (x .args .to) (x .args .n) (x .pre) (l .k) (omega arith) (l .memory) (l .inv .1)
-
 loop-again : tie.Need-loop-again Inv-loop μ-loop
 loop-again c =
-    let x = c .before .before .before .before .before .before .before .before in
-    let l = c .before .before .before .before .before .loop in
-    let f = c .before .before .move-four in
-    (omega arith, f .kept .0 ∙ l .inv .1, f .ensures ∙ moved-four (x .args .memory .now) (x .args .from) (x .args .to) (x .args .n) (x .pre) (l .k) (omega arith) (l .memory) (l .k) (omega arith) (omega arith) (l .inv .2))
+    let x = c .before .before .before in
+    let l = c .before .before .loop in (
+      omega arith,
+      length-set (l .memory) _ _ ∙ l .inv .1,
+      moved-more (x .args .memory .now) (x .args .from) (x .args .to) (x .args .n) (x .pre) (l .k) (l .memory) (omega arith) (l .inv .2),
+    )
 
-move-four-requires-2 : tie.Need-move-four-requires-2 Inv-loop μ-loop
-move-four-requires-2 c κs =
-    let x = c .before .before .before .before .before in
-    let l = c .before .before .loop in
-    four-moves (x .args .memory .now) (x .args .from) (x .args .to) (x .args .n) (x .pre) (x .args .n - 4) (omega arith) (l .memory) (l .inv .1)
+same-length : tie.Need-same-length Inv-loop μ-loop
+same-length c = c .before .loop .inv .1
 
-returns-2 : tie.Need-returns-2 Inv-loop μ-loop
-returns-2 c =
-    let x = c .before .before .before .before .before .before .before .before in
-    let l = c .before .before .before .before .before .loop in
-    let f = c .before .before .move-four2 in
-    moved-all (x .args .memory .now) (x .args .from) (x .args .to) (x .args .n) (x .pre) (x .args .n - 4 + 4) _ (omega arith)
-    (f .ensures ∙ moved-four (x .args .memory .now) (x .args .from) (x .args .to) (x .args .n) (x .pre) (x .args .n - 4) (omega arith) (l .memory) (l .k) (omega arith) (omega arith) (l .inv .2))
+returns : tie.Need-returns Inv-loop μ-loop
+returns c =
+    let x = c .before .before in
+    let l = c .before .loop in
+    moved-all (x .args .memory .now) (x .args .from) (x .args .to) (x .args .n) (x .pre) (l .k) (l .memory) (omega arith) (l .inv .2)
 
 pub move-words-spec : {M : Type 1} → statement M
 move-words-spec =
@@ -52,19 +43,15 @@ move-words-spec =
     (tie.spec
     Inv-loop
     μ-loop
-    (λ c κs. c .before .before .before .pre)
-    (λ c. c .before .before .move-few .kept .0)
-    (λ c. c .before .before .move-few .ensures)
     loop-holds
     (λ c. omega arith)
     (λ c. omega arith)
     (λ c. omega arith)
-    move-four-requires
+    (λ c. omega arith)
+    (λ c. omega arith)
+    (λ c. omega arith)
     (λ c. omega arith)
     (λ c. omega arith)
     loop-again
-    (λ c. omega arith)
-    (λ c. omega arith)
-    move-four-requires-2
-    (λ c. c .before .before .move-four2 .kept .0 ∙ c .before .before .before .before .before .loop .inv .1)
-    returns-2)
+    same-length
+    returns)

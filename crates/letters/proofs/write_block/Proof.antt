@@ -1,68 +1,64 @@
--- `letters::write_block` meets its contract. Assumes nothing.
-use Rattle.letters.proofs.Steps.{block-stored}
+-- `letters::write_block` meets its contract: after i turns the first i words stand. Assumes nothing.
+use mathlib.Core.Path.{_≡_, refl, _∙_}
+use Prim.Native.Nat.{_-_, _≤_}
+use native.Mathlib.Omega.{arith}
+use lib.ListN.{length, take, drop, length-set}
+use lib.Seq.{sets}
+use Rattle.letters.specs.Made.{letterOf}
+use Rattle.letters.proofs.UnderWay.{block-more, block-all}
 use borrow.Author.Needs.{needs}
 use Rattle.letters.proofs.write_block.Statement.{statement}
 use Rattle.letters.proofs.write_block.Tie as tie
 
-sub-room : tie.Need-sub-room
-sub-room c = search needs
+abbrev Inv-loop : tie.InvT-loop
+Inv-loop node₀ b h body k left n a i₀ node i = (i ≤ n) × (length node ≡ length node₀) × (node ≡ sets node₀ a (take i (drop k (letterOf h body))))
 
-fewer-requires : tie.Need-fewer-requires
-fewer-requires c κs = search needs
+abbrev μ-loop : tie.MeasureT-loop
+μ-loop node₀ b h body k left n a i₀ node i = n - i
 
-block-at-requires : tie.Need-block-at-requires
-block-at-requires c κs = search needs
+loop-holds : tie.Need-loop-holds Inv-loop μ-loop
+loop-holds c = (omega arith, refl, refl)
 
-add-e : tie.Need-add-e
-add-e c = search needs
+letter-word-requires : tie.Need-letter-word-requires Inv-loop μ-loop
+letter-word-requires c κs = let x = c .before .before .before .before .before .before .before in record { inside = omega (arith, c .before .before .before .fewer .ensures); most = x .pre .1 .most }
 
-mul-copy : tie.Need-mul-copy
-mul-copy c = search needs
+loop-again : tie.Need-loop-again Inv-loop μ-loop
+loop-again c =
+    let x = c .before .before .before .before .before .before .before .before in
+    let l = c .before .before .loop in (
+      omega arith,
+      length-set (l .node) _ _ ∙ l .inv .1,
+      block-more (x .args .h) (x .args .body .now) (x .args .k) _ (x .args .s .b - 1) (c .before .before .before .before .fewer .ensures) (x .args .node .now) (l .node) _ (l .i) _ (omega arith) (l .inv .2) (c .letter-word .ensures),
+    )
 
-sub-copy : tie.Need-sub-copy
-sub-copy c = search needs
+same-length : tie.Need-same-length Inv-loop μ-loop
+same-length c = c .before .loop .inv .1
 
-part-copy-start : tie.Need-part-copy-start
-part-copy-start c = search needs
-
-part-copy-end : tie.Need-part-copy-end
-part-copy-end c = search needs
-
-sub-copy-2 : tie.Need-sub-copy-2
-sub-copy-2 c = search needs
-
-part-copy-start-2 : tie.Need-part-copy-start-2
-part-copy-start-2 c = search needs
-
-part-copy-end-2 : tie.Need-part-copy-end-2
-part-copy-end-2 c = search needs
-
-copy-requires : tie.Need-copy-requires
-copy-requires c κs = search needs
-
-same-length : tie.Need-same-length
-same-length c = search needs
-
-returns : tie.Need-returns
+returns : tie.Need-returns Inv-loop μ-loop
 returns c =
-    let x = c .before .before .before .before .before .before .before .before .before .before in
-    block-stored (x .args .s) (x .args .node .now) (x .pre .stretch) (x .args .b) (x .pre .low) (x .pre .high) (x .args .words .now) _ _ (c .before .before .before .before .before .before .fewer .ensures) (c .before .before .before .before .before .block-at .ensures .is) _ (c .before .before .copy .ensures)
+    let x = c .before .before .before .before .before .before .before in
+    let l = c .before .loop in
+    block-all (x .args .h) (x .args .body .now) (x .args .k) _ (x .args .s .b - 1) (c .before .before .before .fewer .ensures) (x .args .node .now) (l .node) _ _ (l .i) (c .before .before .block-at .ensures .is) (omega arith) (l .inv .2)
 
 pub write-block-spec : {M : Type 1} → statement M
 write-block-spec =
     tie.close
     (tie.spec
-    sub-room
-    fewer-requires
-    block-at-requires
-    add-e
-    mul-copy
-    sub-copy
-    part-copy-start
-    part-copy-end
-    sub-copy-2
-    part-copy-start-2
-    part-copy-end-2
-    copy-requires
+    Inv-loop
+    μ-loop
+    (λ c. search needs)
+    (λ c. search needs)
+    (λ c. search needs)
+    (λ c κs. search needs)
+    (λ c κs. search needs)
+    loop-holds
+    (λ c. search needs)
+    letter-word-requires
+    (λ c. search needs)
+    (λ c. search needs)
+    (λ c. search needs)
+    (λ c. search needs)
+    (λ c. omega arith)
+    loop-again
     same-length
     returns)
