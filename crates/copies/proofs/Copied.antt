@@ -1,32 +1,34 @@
 -- Letters compared, and what a memory whose letters are right gives of the letter in stage 2. Assumes nothing.
-use mathlib.Core.Path.{_≡_, sym, ap, _∙_}
+use mathlib.Core.Path.{_≡_, refl, sym, ap, ap₂, _∙_}
 use mathlib.Core.Bool.{Bool, true, false, cond, _&&_, not}
-use mathlib.Core.List.{List, [], _∷_}
-use Prim.Native.Nat.{ℕ, suc, _+_, _-_, _≤_, _<_}
+use mathlib.Core.List.{List, [], _∷_, _++_}
+use Prim.Native.Nat.{ℕ, suc, _+_, _-_, _≤_, _<_, min}
 use native.Mathlib.Omega.{arith}
 use lib.Dec.{eqb, leb}
-use lib.ListN.{length, getD, take, drop}
-use lib.Seq.{ext-getD, length-take-le}
+use lib.ListN.{length, getD, take}
+use lib.Seq.{ext-getD}
 use borrow.Author.Tests.{eq-eqb, ne-eqb, leb-true}
-use Rattle.words.specs.Words.{all, alike}
+use Rattle.words.specs.Words.{all, alike, part}
 use Rattle.words.proofs.Lists.{split, and-true, every-at, all-at, all-head, alike-same, same-alike}
 use Rattle.settings.specs.declared.Settings.{Settings}
-use Rattle.layout.specs.Places.{nodes, node, sendAt}
+use Rattle.layout.specs.Places.{nodes, node, sendAt, blockAt}
 use Rattle.layout.proofs.NodeRows.{by-send}
 use Rattle.queues.specs.declared.Kind.{Kind}
 use Rattle.queues.specs.Queue.{sendKind, itemAt, Queue}
 use Rattle.queues.proofs.Views.{contents-item}
-use Rattle.blocks.specs.Chain.{needs, text}
+use Rattle.blocks.specs.Chain.{needs, link, chain, text}
+use Rattle.blocks.specs.Asked.{Block}
 use Rattle.letters.specs.Letter.{word, letter}
-use Rattle.letters.specs.Asked.{Lies}
 use Rattle.letters.proofs.Rows.{needs-enough}
 use Rattle.letters.proofs.Laws.{word-text}
 use Rattle.letters.proofs.Copies.{length-letter, node-stretch}
+use Rattle.letters.proofs.Steps.{Covers, head-block, piece-is, piece-long, piece-text, covers-rest, covers-some}
 use Rattle.sound.specs.Reading.{tableIn, stageOf, otherOf, heldOf, sendItems}
 use Rattle.sound.specs.Letters.{endsWell, toldLength, wordsFrom, rightLength, rightLetter}
 use Rattle.sound.specs.Positions.{namesOther, holdsCopy, held}
 use Rattle.sound.specs.Blocks.{begun, rightLetters}
 use Rattle.sound.proofs.Given.{send-queue}
+use Rattle.sound.proofs.Tests.{and-assoc}
 use Rattle.visits.specs.Letters.{Readable}
 use Rattle.visits.proofs.Read.{told-range, its-chain, its-lies, its-words}
 use Rattle.places.specs.Given.{standsRight}
@@ -43,9 +45,15 @@ module _ (a b : List ℕ) where
   pub differ-long : (length a ≡ length b → ⊥) → false ≡ alike a b
   differ-long h = split (alike a b) (λ t. absurd (h (ap length (alike-same a b t)))) (λ t. sym t)
 
--- the front of a side row
-pub side-long : (n : ℕ) (side : List ℕ) → length side ≡ 1024 → n ≤ 1024 → length (take (n - 0) (drop 0 side)) ≡ n
-side-long n side l h = length-take-le (n - 0) side (omega arith) ∙ omega arith
+-- lists joined, the fronts as long as each other
+alike-append : (p q u v : List ℕ) → length p ≡ length q → alike (p ++ u) (q ++ v) ≡ alike p q && alike u v
+unfolding alike
+alike-append [] [] u v e = refl
+alike-append [] (y ∷ q) u v e = absurd (omega arith)
+alike-append (x ∷ p) [] u v e = absurd (omega arith)
+alike-append (x ∷ p) (y ∷ q) u v e =
+    let n : length p ≡ length q = omega arith in
+    ap (λ (b : Bool). eqb x y && b) (alike-append p q u v n) ∙ sym (and-assoc (eqb x y) (alike p q) (alike u v))
 
 -- ---- a letter that may be read
 module _ (s : Settings) (l : List ℕ) (b : ℕ) (r : Readable s l b) where
@@ -56,17 +64,11 @@ module _ (s : Settings) (l : List ℕ) (b : ℕ) (r : Readable s l b) where
       word-text s l (r .stretch) (needs s (toldLength s l b)) b 4 (its-lies s l b r .walks .within) (omega (arith, needs-enough s (r .stretch .range) (toldLength s l b)))
       ∙ ap (λ (c : List ℕ). getD (text s l c) 4 0) (its-chain s l b r)
 
-  pub told-most : (n : ℕ) → n ≡ word s l b 4 → n ≤ 1024
-  told-most n e = let t = told-range s l b r .1 in let k = told-known in omega arith
-
   words-long : length (wordsFrom s l b) ≡ toldLength s l b
   words-long = ap length (sym (its-words s l b r)) ∙ length-letter s l (toldLength s l b) b (its-lies s l b r)
 
-  pub lies-side : (n m : ℕ) → n ≡ word s l b 4 → m ≡ n → Lies s l m b
-  lies-side n m e f = rw (f ∙ e ∙ told-known) (its-lies s l b r)
-
-  pub letter-side : (n m : ℕ) → n ≡ word s l b 4 → m ≡ n → letter s l m b ≡ wordsFrom s l b
-  letter-side n m e f = rw (f ∙ e ∙ told-known) (its-words s l b r)
+  covers-letter : Covers s l (needs s (toldLength s l b)) b (toldLength s l b)
+  covers-letter = record { walks = its-lies s l b r .walks; room = needs-enough s (r .stretch .range) (toldLength s l b) }
 
 -- lengths that differ
 pub told-differ : (s : Settings) (l : List ℕ) (b : ℕ) (k : List ℕ) (c : ℕ) → Readable s l b → Readable s k c → (word s k c 4 ≡ word s l b 4 → ⊥) → false ≡ alike (wordsFrom s l b) (wordsFrom s k c)
@@ -111,7 +113,7 @@ module _ (s : Settings) (memory : List ℕ) (g : Lettered s memory) (j : ℕ) (s
     other-small = let n = names .0 in omega arith
 
     its-queue : Queue (sendKind s) (node s memory (otherOf memory j)) (sendAt s j)
-    its-queue = send-queue s memory (g .looked .sized) (otherOf memory j) other-small (g .queues (otherOf memory j) other-small) j small
+    its-queue = send-queue s memory (g .looked .sized) (otherOf memory j) other-small (g .looked .queues (otherOf memory j) other-small) j small
 
     pub queue-is : (k : Kind) (q : ℕ) (m : List ℕ) → k ≡ sendKind s → q ≡ sendAt s j → m ≡ node s memory (otherOf memory j) → Queue k m q × (0 < k .slots)
     queue-is k q m ek eq em = rw (ek, eq, em) (its-queue, let r = g .looked .sized .range .s .low in omega arith)
@@ -145,10 +147,80 @@ module _ (s : Settings) (memory : List ℕ) (g : Lettered s memory) (j : ℕ) (s
       unfolding copyRight holdsCopy
       copy-is r e = e ∙ rw (eq-eqb (stageOf memory j) 2 two, em, en, which)
 
--- read from word 0 on
-module _ (s : Settings) (l : List ℕ) (n b : ℕ) where
-  pub lies-from : Lies s l n b → Lies s l (0 + n) b
-  lies-from h = let e : 0 + n ≡ n = omega arith in rw e h
+-- the words that block x carries of those that are left, and the words behind them
+module _ (s : Settings) (l : List ℕ) (owed x left : ℕ) (g : Covers s l owed x left) (owes : 1 ≤ owed) (n : ℕ) (en : n ≡ min left (s .b - 1)) where
+  block : Block s l x
+  block = head-block s l owed x (g .walks) owes
 
-  pub letter-from : (r : List ℕ) → r ≡ drop 0 (letter s l (0 + n) b) → r ≡ letter s l n b
-  letter-from r h = let e : 0 + n ≡ n = omega arith in h ∙ ap (λ (k : ℕ). letter s l k b) e
+  front : (take left (text s l (chain s l owed x)) ≡ part l (blockAt s x) (blockAt s x + n) ++ take (left - n) (text s l (chain s l (owed - 1) (link s l x)))) × (length (part l (blockAt s x) (blockAt s x + n)) ≡ n)
+  front =
+      let w = g .walks .stretch .range .b .low in
+      let i : 0 < s .b - 1 = omega arith in
+      let e : n ≡ min left (s .b - 1 - 0) = omega arith in
+      let p = piece-is s l (g .walks .stretch) x (block .low) (block .high) 0 i left n (blockAt s x) e (omega arith) in
+      let z = piece-long s l (g .walks .stretch) x (block .low) (block .high) 0 i left n (blockAt s x) e (omega arith) in
+      (piece-text s l owed x (g .walks) owes 0 left i ∙ rw (← z, p), ap length (sym p) ∙ sym z)
+
+  covers-behind : Covers s l (owed - 1) (link s l x) (left - n)
+  covers-behind =
+      let w = g .walks .stretch .range .b .low in
+      let r = g .room in
+      let z : 0 + (left - n) ≡ left - n = omega arith in
+      rw z at (covers-rest s l owed x (g .walks) owes 0 left (link s l x) (omega arith) refl n (omega arith) (omega arith))
+
+-- ---- two letters gone through block by block: the `left` words from blocks x and y on are still to be compared
+pub record Comparing (s : Settings) (a : List ℕ) (b : ℕ) (c : List ℕ) (d left x y : ℕ) : Type 0 where
+  pub owed : ℕ
+  pub here : Covers s a owed x left
+  pub there : Covers s c owed y left
+  pub is : alike (wordsFrom s a b) (wordsFrom s c d) ≡ alike (take left (text s a (chain s a owed x))) (take left (text s c (chain s c owed y)))
+
+module _ (s : Settings) (a : List ℕ) (b : ℕ) (c : List ℕ) (d : ℕ) (r : Readable s a b) (q : Readable s c d) where
+  pub compare-starts : (n : ℕ) → n ≡ word s a b 4 → word s c d 4 ≡ n → Comparing s a b c d n b d
+  unfolding wordsFrom
+  compare-starts n ea ec =
+      let ta : toldLength s a b ≡ n = sym (ea ∙ told-known s a b r) in
+      let tc : toldLength s c d ≡ n = sym (told-known s c d q) ∙ ec in
+      record {
+        owed = needs s n;
+        here = rw ta at (covers-letter s a b r);
+        there = rw tc at (covers-letter s c d q);
+        is = ap₂ alike (ap₂ (λ (k : ℕ) (l : List ℕ). take k (text s a l)) ta (sym (its-chain s a b r) ∙ ap (λ (k : ℕ). chain s a (needs s k) b) ta))
+            (ap₂ (λ (k : ℕ) (l : List ℕ). take k (text s c l)) tc (sym (its-chain s c d q) ∙ ap (λ (k : ℕ). chain s c (needs s k) d) tc));
+      }
+
+module _ (s : Settings) (a : List ℕ) (b : ℕ) (c : List ℕ) (d left x y : ℕ) (g : Comparing s a b c d left x y) where
+  pub compare-ends : left ≡ 0 → true ≡ alike (wordsFrom s a b) (wordsFrom s c d)
+  unfolding alike
+  compare-ends z = sym (g .is ∙ rw z refl)
+
+  module _ (some : 0 < left) where
+    owes : 1 ≤ g .owed
+    owes = covers-some s a (g .owed) x left (g .here) (omega arith)
+
+    pub compare-blocks : Block s a x × Block s c y
+    compare-blocks = (head-block s a (g .owed) x (g .here .walks) owes, head-block s c (g .owed) y (g .there .walks) owes)
+
+    module _ (n : ℕ) (en : n ≡ min left (s .b - 1)) where
+      both : alike (wordsFrom s a b) (wordsFrom s c d)
+          ≡ alike (part a (blockAt s x) (blockAt s x + n)) (part c (blockAt s y) (blockAt s y + n))
+          && alike (take (left - n) (text s a (chain s a (g .owed - 1) (link s a x)))) (take (left - n) (text s c (chain s c (g .owed - 1) (link s c y))))
+      both =
+          let h = front s a (g .owed) x left (g .here) owes n en in
+          let k = front s c (g .owed) y left (g .there) owes n en in
+          g .is ∙ ap₂ alike (h .0) (k .0)
+          ∙ alike-append (part a (blockAt s x) (blockAt s x + n)) (part c (blockAt s y) (blockAt s y + n)) _ _ (h .1 ∙ sym (k .1))
+
+      pub compare-differs : (t : Bool) → t ≡ alike (part a (blockAt s x) (blockAt s x + n)) (part c (blockAt s y) (blockAt s y + n)) → t ≡ false → false ≡ alike (wordsFrom s a b) (wordsFrom s c d)
+      compare-differs t e f = sym (both ∙ rw (sym e ∙ f))
+
+      pub compare-goes : (t : Bool) → t ≡ alike (part a (blockAt s x) (blockAt s x + n)) (part c (blockAt s y) (blockAt s y + n)) → t ≡ true
+          → (u v : ℕ) → u ≡ link s a x → v ≡ link s c y → Comparing s a b c d (left - n) u v
+      compare-goes t e f u v eu ev =
+          rw (eu, ev)
+          (record {
+            owed = g .owed - 1;
+            here = covers-behind s a (g .owed) x left (g .here) owes n en;
+            there = covers-behind s c (g .owed) y left (g .there) owes n en;
+            is = both ∙ rw (sym e ∙ f);
+          })

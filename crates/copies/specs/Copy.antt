@@ -7,7 +7,6 @@ use lib.Dec.{eqb}
 use Rattle.settings.specs.declared.Settings.{Settings}
 use Rattle.layout.specs.Places.{nodes}
 use Rattle.sound.specs.Reading.{stageOf}
-use Rattle.sound.specs.Queues.{rightQueues}
 use Rattle.sound.specs.Positions.{holdsCopy}
 use Rattle.sound.specs.Blocks.{rightLetters}
 use Rattle.places.specs.Given.{Looked}
@@ -20,5 +19,4 @@ module _ (s : Settings) (memory : List ℕ) where
   -- all that the rules ask for but the comparison of letters
   pub record Lettered : Type 0 where
     pub looked : Looked s memory
-    pub queues : (i : ℕ) → i < nodes → rightQueues s memory i ≡ true
     pub letters : (i : ℕ) → i < nodes → rightLetters s memory i ≡ true

@@ -1,18 +1,12 @@
--- The rows of the memory start where the document puts them, and the six stretches follow one another to its end; every place lies in the memory,
--- and different places are different. Assumes nothing.
+-- The rows of the memory start where the document puts them; every place lies in the memory, and different places are different. Assumes nothing.
 use mathlib.Core.Path.{_≡_, refl, ap, _∙_}
-use mathlib.Core.List.{List}
 use Prim.Native.Nat.{ℕ, _+_, _-_, _*_, _≤_, _<_}
-use native.Mathlib.Nat.{suc-mul}
 use native.Mathlib.Omega.{arith}
-use lib.ListN.{length}
 use borrow.Author.Tests.{lt-ltb, le-ltb}
 use Rattle.words.specs.Rows.{start}
-use Rattle.words.proofs.Lists.{same?}
 use Rattle.words.proofs.Rows.{start-add, start-lt, place-same, place-in}
 use Rattle.settings.specs.declared.Settings.{Settings}
 use Rattle.layout.specs.Places.{turnAt, positionWords, positionAt, tableAt, tableWords, nodeSize, nodeAt, memorySize}
-use Rattle.layout.specs.Asked.{Sized}
 use Rattle.layout.specs.Rows.{byMemoryRow, memoryWidth, width}
 use Rattle.layout.proofs.NodeRows.{row-fits}
 
@@ -66,30 +60,6 @@ module _ (s : Settings) where
   -- node i's stretch lies in the memory
   pub stretch-fits : (i : ℕ) → i < 6 → nodeAt s i + nodeSize s ≤ memorySize s
   stretch-fits i h = omega (arith, start-lt (memoryWidth s) (9 + i) 15 (omega arith), start-stretch i, width-stretch i, start-all)
-
-  -- a stretch ends where the next one begins
-  pub stretch-next : (i : ℕ) → nodeAt s i + nodeSize s ≡ nodeAt s (i + 1)
-  unfolding nodeAt
-  stretch-next i = omega (arith, suc-mul i (nodeSize s))
-
-  stretch-six : nodeAt s 6 ≡ memorySize s
-  unfolding memorySize nodeAt
-  stretch-six = refl
-
-  stretch-some : 1 ≤ nodeSize s
-  unfolding nodeSize
-  stretch-some = omega arith
-
-  -- ONE AFTER ANOTHER TO THE MEMORY'S END: where that is not reached a stretch is left and lies in it, and where it is reached there were six
-  module _ (memory : List ℕ) (g : Sized s memory) (i a : ℕ) (h : i ≤ 6) (e : a ≡ nodeAt s i) where
-    pub stretch-left : a < length memory → i < 6
-    stretch-left l = same? i 6 (λ q f. let d : nodeAt s i ≡ nodeAt s 6 = ap (nodeAt s) q in omega (arith, g .long, stretch-six)) (λ q f. omega arith)
-
-    pub stretch-in : a < length memory → a + nodeSize s ≤ length memory
-    stretch-in l = omega (arith, g .long, stretch-fits i (stretch-left l))
-
-    pub stretch-all : length memory ≤ a → i ≡ 6
-    stretch-all l = same? i 6 (λ q f. q) (λ q f. omega (arith, g .long, stretch-fits i (omega arith), stretch-some))
 
   -- EVERY PLACE LIES IN THE MEMORY: word k of row r, and word k of row r of node i's stretch
   pub word-in : (r k : ℕ) → r < 15 → k < memoryWidth s r → start (memoryWidth s) r + k < memorySize s

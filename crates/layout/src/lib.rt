@@ -2,6 +2,8 @@
 use settings::Settings;
 ghost use mathlib.Core.Path.{_≡_};
 ghost use Prim.Native.Nat.{_+_, _≤_, _<_};
+ghost use lib.ListN.{length};
+ghost use Rattle.words.specs.Words.{part};
 ghost use Rattle.settings.specs.Range.{InRange};
 ghost use Rattle.layout.specs.Places.{
   sendAt,
@@ -13,8 +15,13 @@ ghost use Rattle.layout.specs.Places.{
   memorySize,
   queueHead,
   taskHead,
+  nodes,
+  node,
+  tableAt,
+  tableWords,
+  nodesAt,
 };
-ghost use Rattle.layout.specs.Asked.{IsNodeSize, IsNodeAt, IsAt};
+ghost use Rattle.layout.specs.Asked.{Sized, IsNodeSize, IsNodeAt, IsAt};
 
 // N, the words of a node's stretch.
 pub fn node_size(s: Settings) -> usize
@@ -84,4 +91,23 @@ pub fn link_at(s: Settings, b: usize) -> usize
     ensures { λ r. ⌜ IsAt s (linkAt s b) 1 r ⌝ }
 {
     block_at(s, b) + (s.b - 1)
+}
+
+// Node i's stretch of the memory, to be read.
+pub fn stretch(memory: &[u32], s: Settings, i: usize) -> &[u32]
+    requires { ⌜ Sized s (now memory) ⌝ }
+    requires { ⌜ i < nodes ⌝ }
+    ensures { λ r. ⌜ (now r ≡ node s (now (memory .entry)) i) × (length (now r) ≡ nodeSize s) ⌝ }
+{
+    let a = node_at(s, i);
+    let e = a + node_size(s);
+    &memory[a..e]
+}
+
+// The task table of the memory, to be read.
+pub fn table(memory: &[u32]) -> &[u32]
+    requires { ⌜ nodesAt ≤ length (now memory) ⌝ }
+    ensures { λ r. ⌜ (now r ≡ part (now (memory .entry)) tableAt nodesAt) × (length (now r) ≡ tableWords) ⌝ }
+{
+    &memory[24..536]
 }

@@ -1,20 +1,15 @@
--- Marks are counts: after a list is marked, each mark has risen by how often the block stands in the list; and tests of all numbers below one. Assumes nothing.
-use mathlib.Core.Path.{_≡_, refl, sym, ap, ap₂, _∙_}
-use mathlib.Core.Bool.{Bool, true, false, _&&_}
+-- Marks are counts: after a list is marked, each mark has risen by how often the block stands in the list. Assumes nothing.
+use mathlib.Core.Path.{_≡_, refl}
+use mathlib.Core.Bool.{true}
 use mathlib.Core.List.{List, [], _∷_}
-use Prim.Native.Nat.{ℕ, zero, suc, _+_, _-_, _^_, _≤_, _<_}
-use native.Mathlib.Numerals.{add-one}
+use Prim.Native.Nat.{ℕ, _+_, _≤_, _<_}
 use native.Mathlib.Omega.{arith}
-use lib.Bits.{bitOr}
-use lib.Dec.{eqb, ltb}
+use lib.Dec.{eqb}
 use lib.ListN.{length, getD, set, length-set}
 use lib.Seq.{getD-set-same, getD-set-other}
 use borrow.Author.Tests.{eq-eqb, eqb-true}
 use Rattle.words.specs.Count.{occurs}
-use Rattle.words.specs.Words.{every}
-use Rattle.words.proofs.Bits.{or-below}
-use Rattle.words.proofs.Lists.{same?, and-true, and-join, and-false}
-use Rattle.sound.proofs.Tests.{and-yes, and-cross, every-step}
+use Rattle.words.proofs.Lists.{same?, and-true, and-join}
 use Rattle.words.proofs.Count.{hit-self, hit-other}
 use Rattle.visits.specs.Marks.{fresh, marked}
 
@@ -47,28 +42,3 @@ once-fresh marks (x ∷ l) h f =
     (λ y. same? y x
     (λ q e. let m = getD-set-same marks x 1 0 (h x (omega (arith, hit-self x))) in rw q (omega (arith, f x, hit-self x)))
     (λ q e. let m = getD-set-other marks x y 1 0 q in omega (arith, f y, hit-other y x q))))
-
--- ---- a test of all
--- of two tests together, or of each
-pub every-and : (p q : ℕ → Bool) (n : ℕ) → every n (λ k. p k && q k) ≡ every n p && every n q
-unfolding every
-every-and p q zero = refl
-every-and p q (suc n) = ap (λ (b : Bool). b && (p n && q n)) (every-and p q n) ∙ and-cross (every n p) (every n q) (p n) (q n)
-
--- ---- a test of all, kept on the way: none yet, one more that fails, and one more that holds
-pub none-yet : (t : ℕ → Bool) → true ≡ every 0 t
-unfolding every
-none-yet t = refl
-
-module _ (t : ℕ → Bool) (k : ℕ) (all : Bool) where
-  pub all-no : t k ≡ false → false ≡ every (k + 1) t
-  unfolding every
-  all-no f = rw (add-one k, f) (sym (and-false (every k t)))
-
-  pub all-more : t k ≡ true → all ≡ every k t → all ≡ every (k + 1) t
-  unfolding every
-  all-more f e = rw (add-one k, f) (e ∙ sym (and-yes (every k t)))
-
--- ---- a test of all by numbers that are joined and stay below a power of two
-pub below-more : (e : ℕ) (p : ℕ → Bool) (b bits x : ℕ) → ltb bits (2 ^ e) ≡ every b p → p b ≡ ltb x (2 ^ e) → ltb (bitOr bits x) (2 ^ e) ≡ every (b + 1) p
-below-more e p b bits x so this = or-below e bits x ∙ ap₂ _&&_ so (sym this) ∙ sym (every-step p b)

@@ -1,10 +1,5 @@
+pub mod Ranges
 pub mod Begun
 pub mod Counts
-pub mod Ranges
-pub mod Links
 pub mod Once
-pub mod Whole
-pub mod Queues
-pub mod Empties
-pub mod Runs
-pub mod Passing
+pub mod Turns

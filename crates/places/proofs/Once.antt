@@ -1,22 +1,23 @@
--- The free list and the places of a node together: what the queues and the marks decide is the third, the fifth and the sixth rule. Assumes nothing.
+-- The free list and the places of a node together: what the marks decide is the fifth and the sixth rule. Assumes nothing.
 use mathlib.Core.Path.{_≡_, refl, sym, ap, ap₂, _∙_}
 use mathlib.Core.Bool.{Bool, true, false, _&&_, false≢true}
-use mathlib.Core.List.{List}
-use Prim.Native.Nat.{ℕ, suc, _-_, _≤_, _<_}
+use mathlib.Core.List.{List, [], _∷_}
+use Prim.Native.Nat.{ℕ, zero, suc, _-_, _≤_}
 use native.Mathlib.Omega.{arith}
 use lib.Dec.{eqb}
-use lib.ListN.{length, getD, replicate, length-replicate, getD-replicate, List·getD-eq-default}
+use lib.ListN.{length, getD, replicate, getD-replicate, List·getD-eq-default}
 use mathlib.Core.Logic.{⊎-elim}
 use borrow.Author.Tests.{eqb-true}
 use Rattle.words.specs.Words.{every, all}
 use Rattle.words.specs.Count.{occurs}
-use Rattle.words.proofs.Lists.{split, same?, and-false, every-at, le-or-lt, told-no, told-yes}
+use Rattle.words.proofs.Lists.{split, same?, and-true, and-false, every-at, all-head, le-or-lt, told-no, told-yes}
+use Rattle.words.proofs.Count.{occurs-append}
 use Rattle.settings.specs.declared.Settings.{Settings}
 use Rattle.layout.specs.Places.{firstFreeAt, node}
 use Rattle.blocks.proofs.Rows.{within-in}
 use Rattle.sound.specs.Reading.{tableIn}
 use Rattle.sound.specs.Letters.{chainFrom, endsWell, rightLetter}
-use Rattle.sound.specs.Blocks.{begun, standing, visits, eachOnce, rightLetters}
+use Rattle.sound.specs.Blocks.{chains, begun, standing, visits, eachOnce, rightLetters}
 use Rattle.sound.proofs.Tests.{and-assoc, and-yes, every-same}
 use Rattle.visits.specs.declared.Walk.{Walk}
 use Rattle.visits.specs.declared.Walk.the-variants.{Ended, Bad}
@@ -24,9 +25,21 @@ use Rattle.visits.specs.Marks.{fresh, marked, endsWithin, clean, Visited}
 use Rattle.visits.specs.Letters.{Judged}
 use Rattle.visits.proofs.Walks.{fresh-append, marked-append}
 use Rattle.visits.proofs.Read.{ends-within}
-use Rattle.places.specs.Given.{Lent, Blank, freeRight, queueRight, placesRight, nodeRight, allMarked}
-use Rattle.places.proofs.Links.{visits-met}
-use Rattle.places.proofs.Counts.{Below, marked-count, once-fresh, every-and}
+use Rattle.places.specs.Given.{Looked, freeRight, placesRight, allMarked}
+use Rattle.places.proofs.Counts.{Below, marked-count, once-fresh}
+
+-- 1,025 bytes for the marks, none made yet
+record Blank (marks : List ℕ) : Type 0 where
+  long : length marks ≡ 1025
+  none : (b : ℕ) → getD marks b 0 ≡ 0
+
+blank-start : Blank (replicate 1025 0)
+blank-start =
+    let z : List ℕ = replicate 1025 0 in
+    record {
+      long = refl;
+      none = λ y. ⊎-elim (λ h. List·getD-eq-default z 0 h) (λ h. getD-replicate 1025 y 0 0 h) (le-or-lt 1025 y);
+    }
 
 -- ---- the free list
 module _ (s : Settings) (l marks : List ℕ) (r : Walk) (new : List ℕ) (v : Visited s l (s .m) (getD l firstFreeAt 0) marks r new) where
@@ -51,18 +64,40 @@ module _ (s : Settings) (l marks : List ℕ) (r : Walk) (new : List ℕ) (v : Vi
       record { is = sym (same ∙ c); marks = λ f. v .marks c }
 
 -- ---- the blocks that are visited are blocks
+module _ (s : Settings) (l t : List ℕ) (i p : ℕ) where
+  chains-in : (bs : List ℕ) → all (rightLetter s l t i p) bs ≡ true → (x : ℕ) → 1 ≤ occurs x (chains s l bs) → (1 ≤ x) × (x ≤ s .m)
+  unfolding chains rightLetter
+  chains-in [] e x o = absurd (omega arith)
+  chains-in (b ∷ bs) e x o =
+      let h = all-head (rightLetter s l t i p) b bs e in
+      same? (occurs x (chainFrom s l b)) 0
+      (λ q f. chains-in bs (h .1) x (omega (arith, occurs-append x (chainFrom s l b) (chains s l bs))))
+      (λ q f. within-in (s .m) (chainFrom s l b) x (ends-within s l b (and-true (endsWell s l b) _ (h .0) .0)) (omega arith))
+
 module _ (s : Settings) (memory : List ℕ) (i : ℕ) where
+  standing-in : (n : ℕ) → every n (λ p. all (rightLetter s (node s memory i) (tableIn memory) i p) (begun s memory i p)) ≡ true
+      → (x : ℕ) → 1 ≤ occurs x (standing s memory i n) → (1 ≤ x) × (x ≤ s .m)
+  unfolding every standing
+  standing-in zero e x o = absurd (omega arith)
+  standing-in (suc n) e x o =
+      let h = and-true (every n (λ p. all (rightLetter s (node s memory i) (tableIn memory) i p) (begun s memory i p))) _ e in
+      same? (occurs x (standing s memory i n)) 0
+      (λ q f. chains-in s (node s memory i) (tableIn memory) i n (begun s memory i n) (h .1) x (omega (arith, occurs-append x (standing s memory i n) (chains s (node s memory i) (begun s memory i n)))))
+      (λ q f. standing-in n (h .0) x (omega arith))
+
   abbrev free : List ℕ
   free = chainFrom s (node s memory i) (getD (node s memory i) firstFreeAt 0)
 
   abbrev counted : Bool
   counted = every (s .m) (λ b. eqb (occurs (suc b) (visits s memory i)) 1)
 
-  module _ (zeroes : List ℕ) (blank : Blank (s .m) zeroes) (ends : endsWell s (node s memory i) (getD (node s memory i) firstFreeAt 0) ≡ true) (right : rightLetters s memory i ≡ true) where
+  module _ (zeroes : List ℕ) (blank : Blank zeroes) (small : s .m ≤ 1024) (ends : endsWell s (node s memory i) (getD (node s memory i) firstFreeAt 0) ≡ true) (right : rightLetters s memory i ≡ true) where
     visits-in : (x : ℕ) → 1 ≤ occurs x (visits s memory i) → (1 ≤ x) × (x ≤ s .m)
-    visits-in =
-        visits-met s memory i (λ x. (1 ≤ x) × (x ≤ s .m))
-        (λ b e x o. within-in (s .m) (chainFrom s (node s memory i) b) x (ends-within s (node s memory i) b e) o) ends right
+    unfolding visits rightLetters
+    visits-in x o =
+        same? (occurs x free) 0
+        (λ q f. standing-in 77 right x (omega (arith, occurs-append x free (standing s memory i 77))))
+        (λ q f. within-in (s .m) free x (ends-within s (node s memory i) (getD (node s memory i) firstFreeAt 0) ends) (omega arith))
 
     below : Below (length zeroes) (visits s memory i)
     below x o = let k = visits-in x o in let z = blank .long in omega arith
@@ -97,16 +132,16 @@ module _ (s : Settings) (memory : List ℕ) (i : ℕ) where
         (λ f. rw f (sym (marks-counts f)))
         (λ f. split counted (λ e. absurd (false≢true (sym f ∙ once e))) (λ e. rw f e))
 
-  -- what the marks decide is the fifth and the sixth rule
-  letters-rule : (zeroes : List ℕ) → Blank (s .m) zeroes → eachOnce s memory i && rightLetters s memory i
+  -- what the code decides is the two rules
+  node-rule : (zeroes : List ℕ) → Blank zeroes → s .m ≤ 1024 → eachOnce s memory i && rightLetters s memory i
       ≡ freeRight s (node s memory i) zeroes
-      && ((rightLetters s memory i && fresh (marked zeroes (chainFrom s (node s memory i) (getD (node s memory i) firstFreeAt 0))) (standing s memory i 77))
+      && (placesRight s memory i (marked zeroes (chainFrom s (node s memory i) (getD (node s memory i) firstFreeAt 0)))
       && allMarked (s .m) (marked (marked zeroes (chainFrom s (node s memory i) (getD (node s memory i) firstFreeAt 0))) (standing s memory i 77)))
-  unfolding eachOnce freeRight visits
-  letters-rule zeroes blank =
+  unfolding eachOnce freeRight placesRight visits
+  node-rule zeroes blank small =
       split (endsWell s (node s memory i) (getD (node s memory i) firstFreeAt 0))
       (λ e. split (rightLetters s memory i)
-      (λ f. rw (e, f) (and-yes counted ∙ both zeroes blank e f ∙ regroup))
+      (λ f. rw (e, f) (and-yes counted ∙ both zeroes blank small e f ∙ regroup))
       (λ f. rw (e, f) (and-false counted ∙ sym (and-false (fresh zeroes free)))))
       (λ e. rw e)
     where
@@ -116,51 +151,29 @@ module _ (s : Settings) (memory : List ℕ) (i : ℕ) where
           ap₂ _&&_ (fresh-append zeroes free (standing s memory i 77)) (ap (allMarked (s .m)) (marked-append zeroes free (standing s memory i 77)))
           ∙ and-assoc (fresh zeroes free) (fresh (marked zeroes free) (standing s memory i 77)) (allMarked (s .m) (marked (marked zeroes free) (standing s memory i 77)))
 
-  -- what the code decides is the three rules
-  pub node-rule : (zeroes : List ℕ) → Blank (s .m) zeroes → nodeRight s memory i
-      ≡ freeRight s (node s memory i) zeroes
-      && (placesRight s memory i (marked zeroes (chainFrom s (node s memory i) (getD (node s memory i) firstFreeAt 0)))
-      && allMarked (s .m) (marked (marked zeroes (chainFrom s (node s memory i) (getD (node s memory i) firstFreeAt 0))) (standing s memory i 77)))
-  unfolding nodeRight placesRight rightLetters
-  node-rule zeroes blank =
-      let f : Bool = freeRight s (node s memory i) zeroes in
-      let h : Bool = fresh (marked zeroes free) (standing s memory i 77) in
-      let e : Bool = allMarked (s .m) (marked (marked zeroes free) (standing s memory i 77)) in
-      let letters : ℕ → Bool = λ p. all (rightLetter s (node s memory i) (tableIn memory) i p) (begun s memory i p) in
-      ap (λ (b : Bool). every 77 (queueRight s memory i) && b) (letters-rule zeroes blank)
-      ∙ inwards (every 77 (queueRight s memory i)) f (every 77 letters) h e
-      ∙ ap (λ (b : Bool). f && ((b && h) && e)) (sym (every-and (queueRight s memory i) letters 77))
-    where
-      inwards : (q f r h e : Bool) → q && (f && ((r && h) && e)) ≡ f && (((q && r) && h) && e)
-      inwards true f r h e = refl
-      inwards false f r h e = sym (and-false f)
-
 -- ---- by the tests on the way
-module _ (s : Settings) (memory l t row : List ℕ) (i : ℕ) (g : Lent s memory l t row i) (zeroes : List ℕ) (blank : Blank (s .m) zeroes) where
-  rule : nodeRight s memory i
-      ≡ freeRight s l zeroes
-      && (placesRight s memory i (marked zeroes (chainFrom s l (getD l firstFreeAt 0)))
-      && allMarked (s .m) (marked (marked zeroes (chainFrom s l (getD l firstFreeAt 0))) (standing s memory i 77)))
-  rule = rw (g .stretch) (node-rule s memory i zeroes blank)
+module _ (s : Settings) (memory : List ℕ) (i : ℕ) (g : Looked s memory) where
+  abbrev stretch : List ℕ
+  stretch = node s memory i
 
-  pub free-no : freeRight s l zeroes ≡ false → false ≡ nodeRight s memory i
+  abbrev none : List ℕ
+  none = replicate 1025 0
+
+  rule : eachOnce s memory i && rightLetters s memory i
+      ≡ freeRight s (node s memory i) (replicate 1025 0)
+      && (placesRight s memory i (marked (replicate 1025 0) (chainFrom s (node s memory i) (getD (node s memory i) firstFreeAt 0)))
+      && allMarked (s .m) (marked (marked (replicate 1025 0) (chainFrom s (node s memory i) (getD (node s memory i) firstFreeAt 0))) (standing s memory i 77)))
+  rule = node-rule s memory i (replicate 1025 0) blank-start (g .sized .range .m .high)
+
+  pub free-no : freeRight s (node s memory i) (replicate 1025 0) ≡ false → false ≡ eachOnce s memory i && rightLetters s memory i
   free-no f = sym (rule ∙ rw f)
 
-  module _ (f : freeRight s l zeroes ≡ true) (mid : List ℕ) (e : mid ≡ marked zeroes (chainFrom s l (getD l firstFreeAt 0))) where
-    rest : nodeRight s memory i ≡ placesRight s memory i mid && allMarked (s .m) (marked mid (standing s memory i 77))
+  module _ (f : freeRight s (node s memory i) (replicate 1025 0) ≡ true) (mid : List ℕ) (e : mid ≡ marked (replicate 1025 0) (chainFrom s (node s memory i) (getD (node s memory i) firstFreeAt 0))) where
+    rest : eachOnce s memory i && rightLetters s memory i ≡ placesRight s memory i mid && allMarked (s .m) (marked mid (standing s memory i 77))
     rest = rule ∙ rw (f, e)
 
-    pub places-no : placesRight s memory i mid ≡ false → false ≡ nodeRight s memory i
+    pub places-no : placesRight s memory i mid ≡ false → false ≡ eachOnce s memory i && rightLetters s memory i
     places-no h = sym (rest ∙ rw h)
 
-    pub node-is : placesRight s memory i mid ≡ true → (new : List ℕ) → new ≡ marked mid (standing s memory i 77) → (r : Bool) → r ≡ allMarked (s .m) new → r ≡ nodeRight s memory i
+    pub node-is : placesRight s memory i mid ≡ true → (new : List ℕ) → new ≡ marked mid (standing s memory i 77) → (r : Bool) → r ≡ allMarked (s .m) new → r ≡ eachOnce s memory i && rightLetters s memory i
     node-is h new d r q = q ∙ ap (allMarked (s .m)) d ∙ sym (rest ∙ rw h)
-
-pub blank-start : (m n : ℕ) → m < n → Blank m (replicate n 0)
-blank-start m n h =
-    let z : List ℕ = replicate n 0 in
-    let e : length z ≡ n = length-replicate n 0 in
-    record {
-      long = rw e h;
-      none = λ y. ⊎-elim (λ k. List·getD-eq-default z 0 (rw e k)) (λ k. getD-replicate n y 0 0 k) (le-or-lt n y);
-    }

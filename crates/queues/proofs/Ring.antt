@@ -54,6 +54,15 @@ module _ (k : Kind) (l : List ℕ) (q : ℕ) where
       let e : itemAt k l q i ≡ x = rw (add-zero i) at (h 0 (omega arith)) in
       rw (e, run-is (i + 1) xs (λ j p. ap (itemAt k l q) (step i j) ∙ h (suc j) (omega arith)))
 
+  -- the items from place i on, of n
+  pub run-step : (i n : ℕ) → i < n → run k l q i (n - i) ≡ itemAt k l q i ∷ run k l q (i + 1) (n - (i + 1))
+  unfolding run
+  run-step i n h = let e : n - i ≡ suc (n - (i + 1)) = omega arith in rw e
+
+  pub run-none : (i n : ℕ) → n ≤ i → run k l q i (n - i) ≡ []
+  unfolding run
+  run-none i n h = let e : n - i ≡ 0 = omega arith in rw e
+
   -- one item more at the end
   pub run-more : (i n : ℕ) → run k l q i (n + 1) ≡ run k l q i n ++ itemAt k l q (i + n) ∷ []
   unfolding run

@@ -1,4 +1,4 @@
-pub mod Bound
-pub mod Steps
 pub mod Clear
+pub mod Steps
+pub mod Bound
 pub mod Rule

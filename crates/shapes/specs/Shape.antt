@@ -1,15 +1,17 @@
--- The third rule of a sound memory, of one queue in a stretch.
+-- The third rule of a sound memory, over one node's stretch and the row of seats.
 use mathlib.Core.Bool.{Bool, _&&_, _||_, not}
 use mathlib.Core.List.{List}
 use Prim.Native.Nat.{ℕ, _+_, _-_}
 use lib.Dec.{eqb, leb, ltb}
 use lib.ListN.{length, getD}
 use Rattle.words.specs.Words.{every, all}
-use Rattle.layout.specs.Places.{gapWord}
+use Rattle.settings.specs.declared.Settings.{Settings}
+use Rattle.layout.specs.Places.{nodes, taskQueues, sendAt, ackAt, taskAt, gapWord}
 use Rattle.queues.specs.declared.Kind.{Kind}
-use Rattle.queues.specs.Queue.{items, itemAt, contents}
+use Rattle.queues.specs.Queue.{sendKind, ackKind, taskKind, items, itemAt, contents}
 use Rattle.queues.specs.Items.{gapFlag}
 use Rattle.sound.specs.Queues.{inShape}
+use Rattle.tasks.specs.Seat.{seatAt}
 
 -- the words from a on, before e, are 0
 unfoldable pub zeroes : List ℕ → ℕ → ℕ → Bool
@@ -37,3 +39,18 @@ rightSeat k stretch q m task =
     && (all (λ b. leb b m) (contents k stretch q)
     && ((eqb (length (contents k stretch q)) 0 || not (eqb (getD (contents k stretch q) 0 0) 0))
     && eqb (getD stretch (q + gapWord) 0) (gapFlag (contents k stretch q)))))
+
+module _ (s : Settings) (stretch : List ℕ) (i : ℕ) where
+  -- the six send queues of node i, the acknowledge queues, and the task queues with who sits there
+  unfoldable pub rightSends : Bool
+  rightSends = every nodes (λ k. rightPost (sendKind s) stretch (sendAt s k) (s .m) (eqb k i))
+
+  unfoldable pub rightAcks : Bool
+  rightAcks = every nodes (λ k. rightPost (ackKind s) stretch (ackAt s k) (s .m) (eqb k i))
+
+  unfoldable pub rightSeats : List ℕ → Bool
+  rightSeats seats = every taskQueues (λ q. rightSeat (taskKind s) stretch (taskAt s q) (s .m) (getD seats (seatAt i q) 0))
+
+  -- the third rule, of the stretch of node i
+  unfoldable pub rightStretch : List ℕ → Bool
+  rightStretch seats = rightSends && (rightAcks && rightSeats seats)

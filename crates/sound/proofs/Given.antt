@@ -1,21 +1,23 @@
 -- What a sound memory gives of its queues: each is a queue, and what its items are. Assumes nothing.
 use mathlib.Core.Path.{_≡_, refl, ap, _∙_}
-use mathlib.Core.Bool.{true, false, _&&_, false≢true}
+use mathlib.Core.Bool.{true, false, _&&_, _||_, not, false≢true}
 use mathlib.Core.List.{List, [], _∷_}
 use Prim.Native.Nat.{ℕ, zero, suc, _+_, _≤_, _<_}
 use native.Mathlib.Omega.{arith}
-use lib.Dec.{leb}
+use lib.Dec.{eqb, leb}
+use lib.ListN.{length}
 use Rattle.words.specs.Words.{every, all}
 use Rattle.words.proofs.Lists.{and-true, every-at, all-head}
 use Rattle.settings.specs.declared.Settings.{Settings}
-use Rattle.layout.specs.Places.{nodes, taskQueues, sendAt, taskAt, queueHead, taskHead, nodeSize, node}
+use Rattle.layout.specs.Places.{nodes, taskQueues, sendAt, ackAt, taskAt, queueHead, taskHead, nodeSize, node}
 use Rattle.layout.specs.Asked.{Stretch, Sized}
-use Rattle.layout.proofs.Fits.{send-fits, task-fits}
+use Rattle.layout.proofs.Fits.{send-fits, ack-fits, task-fits}
 use Rattle.queues.specs.declared.Kind.{Kind}
 use Rattle.queues.specs.Queue.{sendKind, ackKind, taskKind, Placed, Queue}
 use Rattle.queues.specs.Items.{live}
 use Rattle.queues.proofs.Items.{live-cons}
 use Rattle.letters.proofs.Copies.{node-stretch}
+use Rattle.sound.specs.Reading.{sendItems, ackItems}
 use Rattle.sound.proofs.Shapes.{shape-queue}
 use Rattle.sound.specs.Queues.{inShape, rightSend, rightAck, rightTask, rightQueues}
 
@@ -64,6 +66,25 @@ module _ (s : Settings) (memory : List ℕ) (sized : Sized s memory) (i : ℕ) (
         shape-queue (sendKind s) (node s memory i) (sendAt s k)
         (placed-send s (node s memory i) st (sendKind s) (sendAt s k) refl (send-fits s k h))
         (and-true (inShape (sendKind s) (node s memory i) (sendAt s k)) _ (every-at (rightSend s memory i) nodes (parts .0) k h) .0)
+
+    pub ack-queue : Queue (ackKind s) (node s memory i) (ackAt s k)
+    unfolding rightAck
+    ack-queue =
+        shape-queue (ackKind s) (node s memory i) (ackAt s k)
+        (placed-ack s (node s memory i) st (ackKind s) (ackAt s k) refl (ack-fits s k h))
+        (and-true (inShape (ackKind s) (node s memory i) (ackAt s k)) _ (every-at (rightAck s memory i) nodes (parts .1) k h) .0)
+
+    pub send-live : live (sendItems s memory i k) ≡ sendItems s memory i k
+    unfolding rightSend
+    send-live =
+        let a = and-true (inShape (sendKind s) (node s memory i) (sendAt s k)) _ (every-at (rightSend s memory i) nodes (parts .0) k h) in
+        live-blocks (s .m) (sendItems s memory i k) (and-true (not (eqb k i) || eqb (length (sendItems s memory i k)) 0) _ (a .1) .1)
+
+    pub ack-live : live (ackItems s memory i k) ≡ ackItems s memory i k
+    unfolding rightAck
+    ack-live =
+        let a = and-true (inShape (ackKind s) (node s memory i) (ackAt s k)) _ (every-at (rightAck s memory i) nodes (parts .1) k h) in
+        live-blocks (s .m) (ackItems s memory i k) (and-true (not (eqb k i) || eqb (length (ackItems s memory i k)) 0) _ (a .1) .1)
 
   pub task-queue : (q : ℕ) → q < taskQueues → Queue (taskKind s) (node s memory i) (taskAt s q)
   unfolding rightTask

@@ -2,22 +2,24 @@
 use mathlib.Core.Path.{_≡_, refl, sym, _∙_}
 use mathlib.Core.Bool.{Bool, true, false, _&&_}
 use mathlib.Core.List.{List}
-use Prim.Native.Nat.{ℕ, _+_, _≤_, _<_}
+use Prim.Native.Nat.{ℕ, _≤_, _<_}
 use native.Mathlib.Omega.{arith}
 use lib.Dec.{eqb, leb}
-use lib.ListN.{length, getD}
+use lib.ListN.{length}
 use borrow.Author.Tests.{eq-eqb, ne-eqb, le-leb, lt-leb}
 use Rattle.words.proofs.Lists.{same?, and-false}
 use Rattle.settings.specs.declared.Settings.{Settings}
-use Rattle.layout.specs.Places.{node, sendAt}
-use Rattle.queues.specs.Queue.{sendKind, items}
-use Rattle.queues.proofs.Ring.{length-run}
+use Rattle.layout.specs.Places.{nodes, node, sendAt}
+use Rattle.queues.specs.declared.Kind.{Kind}
+use Rattle.queues.specs.Queue.{sendKind, items, Queue}
+use Rattle.queues.proofs.Views.{length-contents}
 use Rattle.sound.specs.Reading.{stageOf, otherOf, heldOf, sendItems}
 use Rattle.sound.specs.Positions.{namesOther, holdsCopy, rightPosition}
+use Rattle.sound.proofs.Given.{send-queue}
 use Rattle.sound.proofs.Tests.{and-assoc, and-yes}
 use Rattle.places.specs.Given.{standsRight}
 use Rattle.copies.specs.Copy.{copyRight}
-use Rattle.soundness.specs.Parts.{isOther}
+use Rattle.soundness.specs.Parts.{isOther, Queued}
 
 module _ (s : Settings) (memory : List ℕ) (j other : ℕ) where
   pub other-high : 5 < other → false ≡ isOther s memory j other
@@ -28,12 +30,19 @@ module _ (s : Settings) (memory : List ℕ) (j other : ℕ) where
   unfolding isOther
   other-own e = rw (eq-eqb other j e) (sym (and-false (leb other 5)))
 
-  -- the send queue's word of items tells how many it has
-  pub other-is : (other ≡ j → ⊥) → other ≤ 5 → (n : ℕ) → n ≡ getD (node s memory other) (sendAt s j + 1) 0 → leb 1 n ≡ isOther s memory j other
-  unfolding isOther
-  other-is d h n e =
-      let f : n ≡ length (sendItems s memory other j) = e ∙ sym (length-run (sendKind s) (node s memory other) (sendAt s j) 0 (items (sendKind s) (node s memory other) (sendAt s j))) in
-      rw (le-leb other 5 h, ne-eqb other j d, f)
+  module _ (g : Queued s memory) (small : j < nodes) (h : other ≤ 5) where
+    its-queue : Queue (sendKind s) (node s memory other) (sendAt s j)
+    its-queue = send-queue s memory (g .sized) other (omega arith) (g .queues other (omega arith)) j small
+
+    module _ (k : Kind) (q : ℕ) (m : List ℕ) (ek : k ≡ sendKind s) (eq : q ≡ sendAt s j) (em : m ≡ node s memory other) where
+      pub other-queue : Queue k m q
+      other-queue = rw (ek, eq, em) its-queue
+
+      pub other-is : (other ≡ j → ⊥) → (n : ℕ) → n ≡ items k m q → leb 1 n ≡ isOther s memory j other
+      unfolding isOther
+      other-is d n e =
+          let f : n ≡ length (sendItems s memory other j) = e ∙ rw (eq, em) (sym (length-contents (sendKind s) (node s memory other) (sendAt s j) its-queue)) in
+          rw (le-leb other 5 h, ne-eqb other j d, f)
 
 module _ (s : Settings) (memory : List ℕ) (j : ℕ) where
   names-is : namesOther s memory j ≡ isOther s memory j (otherOf memory j)

@@ -2,7 +2,7 @@
 use mathlib.Core.Path.{_≡_, refl, sym, ap, ap₂, _∙_}
 use mathlib.Core.Bool.{Bool, true, false, _&&_}
 use mathlib.Core.List.{List}
-use Prim.Native.Nat.{ℕ, _≤_, _<_}
+use Prim.Native.Nat.{ℕ, zero, suc, _≤_, _<_}
 use native.Mathlib.Omega.{arith}
 use lib.Dec.{eqb, leb}
 use lib.ListN.{length, getD}
@@ -23,62 +23,71 @@ use Rattle.sound.specs.Queues.{rightQueues}
 use Rattle.sound.specs.Positions.{rightPosition}
 use Rattle.sound.specs.Blocks.{eachOnce, rightLetters}
 use Rattle.sound.specs.Sound.{rightSize, sound}
-use Rattle.sound.proofs.Tests.{every-same}
-use Rattle.places.specs.Given.{standsRight, queueRight, nodeRight, Looked}
-use Rattle.places.proofs.Counts.{every-and}
-use Rattle.places.proofs.Whole.{queues-whole}
+use Rattle.sound.proofs.Tests.{and-cross, every-same}
+use Rattle.places.specs.Given.{standsRight, Looked}
 use Rattle.copies.specs.Copy.{copyRight, Lettered}
-use Rattle.soundness.specs.Parts.{seatedRight}
+use Rattle.soundness.specs.Parts.{nodeRight, seatedRight, Queued}
 use Rattle.soundness.proofs.Places.{position-is}
 
--- of four tests the second comes first, then the first and the fourth, then the third
-in-order : (q s c l : Bool) → q && ((s && c) && l) ≡ s && ((q && l) && c)
-in-order true true true true = refl
-in-order true true true false = refl
-in-order true true false true = refl
-in-order true true false false = refl
-in-order true false c l = refl
-in-order false s c l = sym (and-false s)
+every-and : (p q : ℕ → Bool) (n : ℕ) → every n (λ k. p k && q k) ≡ every n p && every n q
+unfolding every
+every-and p q zero = refl
+every-and p q (suc n) = ap (λ (b : Bool). b && (p n && q n)) (every-and p q n) ∙ and-cross (every n p) (every n q) (p n) (q n)
+
+swap : (a b c : Bool) → (a && b) && c ≡ a && (c && b)
+swap true true true = refl
+swap true true false = refl
+swap true false true = refl
+swap true false false = refl
+swap false b c = refl
 
 module _ (s : Settings) (memory : List ℕ) where
-  -- the third, the fifth and the sixth rule, node by node
-  nodes-are : every nodes (nodeRight s memory) ≡ every nodes (λ i. every 77 (queueRight s memory i)) && every nodes (λ i. eachOnce s memory i && rightLetters s memory i)
-  unfolding nodeRight
-  nodes-are = every-and (λ i. every 77 (queueRight s memory i)) (λ i. eachOnce s memory i && rightLetters s memory i) nodes
-
-  -- the third to sixth rule: the positions first, the letters of stage 2 compared last
-  seated-is : seatedRight s memory ≡ every nodes (standsRight s memory) && (every nodes (nodeRight s memory) && every nodes (copyRight s memory))
-  unfolding seatedRight
+  -- the third to sixth rule, the letters of stage 2 compared last
+  seated-is : seatedRight s memory
+      ≡ every nodes (rightQueues s memory)
+      && (every nodes (standsRight s memory) && (every nodes (nodeRight s memory) && every nodes (copyRight s memory)))
+  unfolding seatedRight nodeRight
   seated-is =
-      ap₂ _&&_ (queues-whole s memory)
+      ap (λ (b : Bool). every nodes (rightQueues s memory) && b)
       (ap₂ _&&_
       (every-same (rightPosition s memory) (λ j. standsRight s memory j && copyRight s memory j) nodes (λ j h. position-is s memory j) ∙ every-and (standsRight s memory) (copyRight s memory) nodes)
-      (sym (every-and (eachOnce s memory) (rightLetters s memory) nodes)))
-      ∙ in-order (every nodes (λ i. every 77 (queueRight s memory i))) (every nodes (standsRight s memory)) (every nodes (copyRight s memory)) (every nodes (λ i. eachOnce s memory i && rightLetters s memory i))
-      ∙ ap (λ (b : Bool). every nodes (standsRight s memory) && (b && every nodes (copyRight s memory))) (sym nodes-are)
+      (sym (every-and (eachOnce s memory) (rightLetters s memory) nodes))
+      ∙ swap (every nodes (standsRight s memory)) (every nodes (copyRight s memory)) (every nodes (λ i. eachOnce s memory i && rightLetters s memory i)))
 
-  pub seated-standing : every nodes (standsRight s memory) ≡ false → false ≡ seatedRight s memory
-  seated-standing f = sym (seated-is ∙ rw f)
+  pub seated-queues : every nodes (rightQueues s memory) ≡ false → false ≡ seatedRight s memory
+  seated-queues f = sym (seated-is ∙ rw f)
 
-  module _ (a : every nodes (standsRight s memory) ≡ true) where
-    pub looked : Sized s memory → rightTable (tableIn memory) ≡ true → Looked s memory
-    looked z t = record { sized = z; table = t; positions = λ i h. every-at (standsRight s memory) nodes a i h }
+  module _ (a : every nodes (rightQueues s memory) ≡ true) where
+    pub queued : Sized s memory → Queued s memory
+    queued z = record { sized = z; queues = λ i h. every-at (rightQueues s memory) nodes a i h }
 
-    pub seated-nodes : every nodes (nodeRight s memory) ≡ false → false ≡ seatedRight s memory
-    seated-nodes f = sym (seated-is ∙ rw (a, f))
+    pub seated-standing : every nodes (standsRight s memory) ≡ false → false ≡ seatedRight s memory
+    seated-standing f = sym (seated-is ∙ rw (a, f))
 
-    module _ (b : every nodes (nodeRight s memory) ≡ true) where
-      pub lettered : Sized s memory → rightTable (tableIn memory) ≡ true → Lettered s memory
-      lettered z t =
-          let w = and-true (every nodes (λ i. every 77 (queueRight s memory i))) (every nodes (λ i. eachOnce s memory i && rightLetters s memory i)) (sym nodes-are ∙ b) in
+    module _ (b : every nodes (standsRight s memory) ≡ true) where
+      pub looked : Sized s memory → rightTable (tableIn memory) ≡ true → Looked s memory
+      looked z t =
           record {
-            looked = looked z t;
-            queues = λ i h. every-at (rightQueues s memory) nodes (queues-whole s memory ∙ w .0) i h;
-            letters = λ i h. and-true (eachOnce s memory i) (rightLetters s memory i) (every-at (λ i. eachOnce s memory i && rightLetters s memory i) nodes (w .1) i h) .1;
+            sized = z;
+            table = t;
+            queues = λ i h. every-at (rightQueues s memory) nodes a i h;
+            positions = λ i h. every-at (standsRight s memory) nodes b i h;
           }
 
-      pub seated-copies : (r : Bool) → r ≡ every nodes (copyRight s memory) → r ≡ seatedRight s memory
-      seated-copies r e = e ∙ sym (seated-is ∙ rw (a, b))
+      pub seated-nodes : every nodes (nodeRight s memory) ≡ false → false ≡ seatedRight s memory
+      seated-nodes f = sym (seated-is ∙ rw (a, b, f))
+
+      module _ (c : every nodes (nodeRight s memory) ≡ true) where
+        pub lettered : Sized s memory → rightTable (tableIn memory) ≡ true → Lettered s memory
+        unfolding nodeRight
+        lettered z t =
+            record {
+              looked = looked z t;
+              letters = λ i h. and-true (eachOnce s memory i) (rightLetters s memory i) (every-at (λ i. eachOnce s memory i && rightLetters s memory i) nodes c i h) .1;
+            }
+
+        pub seated-copies : (r : Bool) → r ≡ every nodes (copyRight s memory) → r ≡ seatedRight s memory
+        seated-copies r e = e ∙ sym (seated-is ∙ rw (a, b, c))
 
 -- ---- all six
 module _ (memory : List ℕ) where

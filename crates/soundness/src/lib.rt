@@ -3,29 +3,21 @@ use settings::MadeSettings;
 use settings::Settings;
 ghost use mathlib.Core.Path.{_≡_};
 ghost use mathlib.Core.Bool.{true, _&&_};
-ghost use Prim.Native.Nat.{_+_, _<_};
-ghost use lib.ListN.{length, getD};
+ghost use Prim.Native.Nat.{_<_};
 ghost use Rattle.words.specs.Words.{every};
 ghost use Rattle.layout.specs.Places.{nodes};
 ghost use Rattle.layout.specs.Asked.{Sized};
 ghost use Rattle.tasks.specs.Table.{rightTable};
 ghost use Rattle.sound.specs.Reading.{tableIn};
+ghost use Rattle.sound.specs.Queues.{rightQueues};
 ghost use Rattle.sound.specs.Sound.{sound};
 ghost use Rattle.shapes.specs.Seats.{Seats};
-ghost use Rattle.places.specs.Given.{standsRight, Looked, nodeRight};
-ghost use Rattle.soundness.specs.Parts.{isOther, seatedRight};
-
-// The items word of the queue at word q.
-fn items_at(node: &[u32], q: usize) -> u32
-    requires { ⌜ q + 1 < length (now node) ⌝ }
-    ensures { λ r. ⌜ r ≡ getD (now (node .entry)) (q + 1) 0 ⌝ }
-{
-    node[q + 1]
-}
+ghost use Rattle.places.specs.Given.{standsRight, Looked};
+ghost use Rattle.soundness.specs.Parts.{isOther, nodeRight, seatedRight, Queued};
 
 // Whether `other` is another node than j, whose send queue to j has an item.
 fn is_other(memory: &[u32], s: Settings, j: usize, other: usize) -> bool
-    requires { ⌜ Sized s (now memory) ⌝ }
+    requires { ⌜ Queued s (now memory) ⌝ }
     requires { ⌜ j < 6 ⌝ }
     ensures { λ r. ⌜ r ≡ isOther s (now (memory .entry)) j other ⌝ }
 {
@@ -35,16 +27,14 @@ fn is_other(memory: &[u32], s: Settings, j: usize, other: usize) -> bool
     if other == j {
         return false;
     }
-    let size = layout::node_size(s);
-    let a = layout::node_at(s, other);
-    let e = a + size;
+    let theirs = layout::stretch(memory, s, other);
     let q = layout::send_at(s, j);
-    1 <= items_at(&memory[a..e], q)
+    1 <= queues::items_of(theirs, queues::send_kind(s), q)
 }
 
 // Whether the position of node j's postman is right, but for the comparison of letters.
 fn is_standing(memory: &[u32], s: Settings, j: usize) -> bool
-    requires { ⌜ Sized s (now memory) ⌝ }
+    requires { ⌜ Queued s (now memory) ⌝ }
     requires { ⌜ j < 6 ⌝ }
     ensures { λ r. ⌜ r ≡ standsRight s (now (memory .entry)) j ⌝ }
 {
@@ -75,7 +65,7 @@ fn is_standing(memory: &[u32], s: Settings, j: usize) -> bool
 
 // The same of every node.
 fn are_standing(memory: &[u32], s: Settings) -> bool
-    requires { ⌜ Sized s (now memory) ⌝ }
+    requires { ⌜ Queued s (now memory) ⌝ }
     ensures { λ r. ⌜ r ≡ every nodes (standsRight s (now (memory .entry))) ⌝ }
 {
     let mut j: usize = 0;
@@ -88,33 +78,48 @@ fn are_standing(memory: &[u32], s: Settings) -> bool
     true
 }
 
-// The third, the fifth and the sixth rule over the places of every node. The stretches are gone over to the memory's end, a number that the
-// compiler does not know: so it does not lay the loop out six times.
-fn are_right_nodes(memory: &[u32], s: Settings, seats: &[u32]) -> bool
+// The third rule, in every node.
+fn are_right_queues(memory: &[u32], s: Settings, seats: &[u8; 384]) -> bool
+    requires { ⌜ Sized s (now memory) ⌝ }
+    requires { ⌜ Seats (tableIn (now memory)) (now seats) ⌝ }
+    ensures { λ r. ⌜ r ≡ every nodes (rightQueues s (now (memory .entry))) ⌝ }
+{
+    let mut i: usize = 0;
+    while i < 6 {
+        if !shapes::is_right_stretch(layout::stretch(memory, s, i), s, seats, i) {
+            return false;
+        }
+        i += 1;
+    }
+    true
+}
+
+// The fifth and the sixth rule, in every node.
+fn are_right_nodes(memory: &[u32], s: Settings, seats: &[u8; 384]) -> bool
     requires { ⌜ Looked s (now memory) ⌝ }
     requires { ⌜ Seats (tableIn (now memory)) (now seats) ⌝ }
     ensures { λ r. ⌜ r ≡ every nodes (nodeRight s (now (memory .entry))) ⌝ }
 {
-    let size = layout::node_size(s);
-    let mut a = layout::node_at(s, 0);
     let mut i: usize = 0;
-    while a < memory.len() {
+    while i < 6 {
         if !places::is_right_node(memory, s, seats, i) {
             return false;
         }
-        a += size;
         i += 1;
     }
     true
 }
 
 // The third to sixth rule, with the row of seats.
-fn is_right_seated(memory: &[u32], s: Settings, seats: &[u32]) -> bool
+fn is_right_seated(memory: &[u32], s: Settings, seats: &[u8; 384]) -> bool
     requires { ⌜ Sized s (now memory) ⌝ }
     requires { ⌜ rightTable (tableIn (now memory)) ≡ true ⌝ }
     requires { ⌜ Seats (tableIn (now memory)) (now seats) ⌝ }
     ensures { λ r. ⌜ r ≡ seatedRight s (now (memory .entry)) ⌝ }
 {
+    if !are_right_queues(memory, s, seats) {
+        return false;
+    }
     if !are_standing(memory, s) {
         return false;
     }
@@ -129,8 +134,8 @@ fn is_right_memory(memory: &[u32], s: Settings) -> bool
     requires { ⌜ Sized s (now memory) ⌝ }
     ensures { λ r. ⌜ r ≡ (rightTable (tableIn (now (memory .entry))) && seatedRight s (now (memory .entry))) ⌝ }
 {
-    let mut seats = [0u32; 512];
-    if !tasks::seat_tasks(&memory[24..536], &mut seats) {
+    let mut seats = [0u8; 384];
+    if !tasks::seat_tasks(layout::table(memory), &mut seats) {
         return false;
     }
     is_right_seated(memory, s, &seats)

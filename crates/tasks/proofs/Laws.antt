@@ -4,14 +4,13 @@ use mathlib.Core.Bool.{Bool, true, false, _&&_, _||_, not}
 use mathlib.Core.List.{List}
 use Prim.Native.Nat.{ℕ, _≤_, _<_}
 use lib.ListN.{length}
-use native.Mathlib.Nat.{mod-lt, mod-eq-of-lt}
 use native.Mathlib.Omega.{arith}
 use lib.Dec.{ltb, leb, eqb}
 use borrow.Author.Tests.{lt-ltb, le-ltb, ltb-true, leb-true, eq-eqb, ne-eqb, eqb-true, not-true}
 use Rattle.words.proofs.Lists.{and-false, and-true, every-at, told-no, told-yes}
 use Rattle.layout.specs.Places.{taskIds, tableWords}
 use Rattle.tasks.specs.Table.{nodeOf, queueOf, holdsNone, isBound, hasSeat, seated, apart, rightTable}
-use Rattle.tasks.specs.Seat.{seatOf, seatAt, wordOf}
+use Rattle.tasks.specs.Seat.{seatOf}
 use Rattle.tasks.specs.declared.Seat.the-variants.{At, Unbound}
 
 module _ (t : List ℕ) (id : ℕ) where
@@ -74,16 +73,3 @@ module _ (t : List ℕ) (id : ℕ) where
 
   pub seat-below : rightTable t ≡ true → isBound t id ≡ true → (nodeOf t id < 6) × (queueOf t id < 64)
   seat-below r b = let w = seat-within r b in (omega arith, omega arith)
-
-  -- ---- the word that an id is put at
-  pub word-seat : (nodeOf t id ≤ 5) × (queueOf t id ≤ 63) → wordOf t id ≡ seatAt (nodeOf t id) (queueOf t id)
-  word-seat h = mod-eq-of-lt (omega arith)
-
-  pub word-none : holdsNone t id ≡ true → wordOf t id ≡ 448
-  unfolding holdsNone
-  word-none h =
-      let w = and-true (eqb (nodeOf t id) 255) (eqb (queueOf t id) 0) h in
-      rw (eqb-true (nodeOf t id) 255 (w .0), eqb-true (queueOf t id) 0 (w .1))
-
-  pub word-low : wordOf t id < 512
-  word-low = mod-lt (seatAt (nodeOf t id) (queueOf t id)) {m = 512} (omega arith)

@@ -2,21 +2,19 @@
 use mathlib.Core.Path.{_≡_}
 use mathlib.Core.Bool.{Bool, true, _&&_}
 use mathlib.Core.List.{List}
-use Prim.Native.Nat.{ℕ, _+_, _-_, _*_, _<_}
-use lib.Dec.{eqb, leb, ltb}
+use Prim.Native.Nat.{ℕ}
+use lib.Dec.{eqb}
 use lib.ListN.{length, getD}
 use Rattle.words.specs.Words.{all}
 use Rattle.settings.specs.declared.Settings.{Settings}
-use Rattle.layout.specs.Places.{nodes}
-use Rattle.layout.specs.Numbers.{headerWords, greatestLength}
-use Rattle.layout.specs.Rows.{byRow}
+use Rattle.layout.specs.Numbers.{sourceNodeWord, destinationTaskWord, destinationNodeWord}
 use Rattle.layout.specs.Asked.{Stretch}
-use Rattle.tasks.specs.Table.{nodeOf, isBound, rightTable}
-use Rattle.sound.specs.Letters.{chainFrom, endsWell, rightLength, rightLetter}
+use Rattle.tasks.specs.Table.{nodeOf, isBound}
+use Rattle.sound.specs.Letters.{chainFrom, endsWell, wordsFrom, rightLength, rightHeader}
 use Rattle.sound.specs.Blocks.{chains}
-use Rattle.tasks.specs.Seat.{seatAt}
-use Rattle.shapes.specs.Seats.{Seats}
-use Rattle.visits.specs.Marks.{fresh, linksLow}
+use Rattle.visits.specs.declared.Asks.{Asks}
+use Rattle.visits.specs.declared.Asks.the-variants.{Any, Between, To}
+use Rattle.visits.specs.Marks.{fresh}
 
 -- a chain that was visited to its end, and how many blocks it has
 pub record Whole (s : Settings) (words : List ℕ) (b n : ℕ) : Type 0 where
@@ -30,36 +28,30 @@ pub record Readable (s : Settings) (words : List ℕ) (b : ℕ) : Type 0 where
   pub ends : endsWell s words b ≡ true
   pub long : rightLength s words b ≡ true
 
--- 'a valid length, the blocks it needs', by the words that a letter's n blocks carry: they hold its k words, and one block fewer does not
-unfoldable pub fitsLength : Settings → ℕ → ℕ → Bool
-fitsLength s n k = leb headerWords k && (leb k greatestLength && (leb k (n * (s .b - 1)) && ltb (n * (s .b - 1)) (k + (s .b - 1))))
-
--- 'bound tasks on their nodes'
+-- the task is bound, and on that node
 unfoldable pub isOn : List ℕ → ℕ → ℕ → Bool
 isOn table task node = isBound table task && eqb (nodeOf table task) node
 
--- from node i to node k
-unfoldable pub isFromTo : ℕ → ℕ → ℕ → ℕ → Bool
-isFromTo from to i k = eqb from i && eqb to k
+-- what a place asks for: of a letter's source node, destination task and destination node
+unfoldable pub isAsked : Asks → ℕ → ℕ → ℕ → Bool
+isAsked Any from task to = true
+isAsked (Between i k) from task to = eqb from i && eqb to k
+isAsked (To wanted) from task to = eqb task wanted
 
--- what the place asks of a header, by the row of seats
-unfoldable pub isAtPlace : List ℕ → ℕ → ℕ → ℕ → ℕ → ℕ → Bool
-isAtPlace seats i p from task to =
-    byRow p true (isFromTo from to i (p - 1)) (isFromTo from to i (p - 7)) (eqb task (getD seats (seatAt i (p - 13)) 0)) true
+-- the same of the letter's words
+abbrev pub meets : Asks → List ℕ → Bool
+meets asks ws = isAsked asks (getD ws sourceNodeWord 0) (getD ws destinationTaskWord 0) (getD ws destinationNodeWord 0)
 
--- a node's stretch with no link too high, the task table with its row of seats, the node and a place of it
-pub record Placing (s : Settings) (words ids row : List ℕ) (i p : ℕ) : Type 0 where
-  pub stretch : Stretch s words
-  pub links : linksLow s words ≡ true
-  pub table : rightTable ids ≡ true
-  pub seats : Seats ids row
-  pub node : i < nodes
-  pub place : p < 77
+module _ (s : Settings) (stretch table : List ℕ) (asks : Asks) where
+  -- the sixth rule, of the letter that block b begins at a place that asks so much
+  unfoldable pub letterRight : ℕ → Bool
+  letterRight b =
+      endsWell s stretch b
+      && (rightLength s stretch b && (rightHeader table (wordsFrom s stretch b) && meets asks (wordsFrom s stretch b)))
 
--- the letters that the blocks begin are right, and none of their blocks has a mark
-unfoldable pub lettersRight : Settings → List ℕ → List ℕ → ℕ → ℕ → List ℕ → List ℕ → Bool
-lettersRight s stretch table i p marks bs =
-    all (rightLetter s stretch table i p) bs && fresh marks (chains s stretch bs)
+  -- of the letters that the blocks begin, and none of their blocks has a mark
+  unfoldable pub lettersRight : List ℕ → List ℕ → Bool
+  lettersRight marks bs = all letterRight bs && fresh marks (chains s stretch bs)
 
 -- the answer, and the marks where it is yes
 pub record Judged (test : Bool) (due : List ℕ) (r : Bool) (new : List ℕ) : Type 0 where

@@ -5,17 +5,13 @@ use mathlib.Core.List.{List, [], _∷_}
 use Prim.Native.Nat.{ℕ, zero, suc, _+_, _-_, _*_, _≤_, _<_}
 use lib.Dec.{eqb, leb}
 use lib.ListN.{length, getD, set}
-use Rattle.words.specs.Words.{every, all}
+use Rattle.words.specs.Words.{all}
 use Rattle.settings.specs.declared.Settings.{Settings}
 use Rattle.layout.specs.Places.{blockAt}
 use Rattle.layout.specs.Asked.{Stretch}
-use Rattle.blocks.specs.Chain.{link, list, after}
+use Rattle.blocks.specs.Chain.{list, after}
 use Rattle.visits.specs.declared.Walk.{Walk}
 use Rattle.visits.specs.declared.Walk.the-variants.{Ended, Bad}
-use Rattle.visits.specs.declared.Stepped.{Stepped}
-use Rattle.visits.specs.declared.Stepped.the-variants.{On as Onward, Stuck}
-use Rattle.visits.specs.declared.Went.{Went}
-use Rattle.visits.specs.declared.Went.the-variants.{On, Over}
 
 -- none of the blocks has a mark, each marked before the next is looked at
 unfoldable pub fresh : List ℕ → List ℕ → Bool
@@ -42,25 +38,11 @@ pub record Visited (s : Settings) (stretch : List ℕ) (n b : ℕ) (old : List �
   pub is : r ≡ cond (clean s stretch n b old) (Ended (n - length (list s stretch n b))) Bad
   pub marks : clean s stretch n b old ≡ true → new ≡ marked old (list s stretch n b)
 
--- each link is that of a block, or 0: what the fifth rule asks of it, wherever the block stands
-unfoldable pub linksLow : Settings → List ℕ → Bool
-linksLow s stretch = every (s .m) (λ b. leb (link s stretch (suc b)) (s .m))
-
--- ---- the same in numbers: the link of block b is word before + b * width, for the blocks 1 to m; no link is above m
+-- ---- the same in numbers: the link of block b is word before + b * width, for the blocks 1 to m
 pub record Linked (words : List ℕ) (before width m : ℕ) : Type 0 where
   pub inside : before + m * width < length words
   pub small : before + m * width ≤ 85274
-  pub low : (b : ℕ) → 1 ≤ b → b ≤ m → getD words (before + b * width) 0 ≤ m
-
--- block b may be stepped on: it is one, and has no mark
-unfoldable pub stepsOn : ℕ → List ℕ → ℕ → Bool
-stepsOn m marks b = leb b m && eqb (getD marks b 0) 0
-
-unfoldable pub stepped : List ℕ → ℕ → ℕ → ℕ → List ℕ → ℕ → Stepped
-stepped words before width m marks b = cond (stepsOn m marks b) (Onward (getD words (before + b * width) 0)) Stuck
-
-unfoldable pub steppedOn : ℕ → List ℕ → ℕ → List ℕ
-steppedOn m marks b = cond (stepsOn m marks b) (set marks b 1) marks
+  pub few : m ≤ 1024
 
 -- what a visit answers, by a number: 0 for a bad chain, else one more than how many blocks were not there
 unfoldable pub toldBy : ℕ → Walk
@@ -71,9 +53,3 @@ toldBy (suc n) = Ended n
 abbrev pub Walked : List ℕ → ℕ → ℕ → ℕ → ℕ → ℕ → List ℕ → ℕ → List ℕ → Type 0
 Walked words before width m n b old r new =
     (s : Settings) → Stretch s words → before ≡ blockAt s 1 - 1 → width ≡ s .b → m ≡ s .m → Visited s words n b old (toldBy r) new
-
--- d blocks of a walk: what it answers where it is over, else that the walk from the next block on is the rest of it
-unfoldable pub Gone : ℕ → List ℕ → ℕ → ℕ → ℕ → ℕ → ℕ → List ℕ → Went → List ℕ → Type 0
-Gone d words before width m n b old (On next) new =
-    ((1 ≤ next) × (next ≤ m)) × (d ≤ n) × ((r : ℕ) (left : List ℕ) → Walked words before width m (n - d) next new r left → Walked words before width m n b old r left)
-Gone d words before width m n b old (Over r) new = Walked words before width m n b old r new

@@ -5,4 +5,3 @@ pub mod Rows
 pub mod Count
 pub mod Over
 pub mod Bits
-pub mod Differences

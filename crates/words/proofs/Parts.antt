@@ -16,10 +16,6 @@ use Rattle.words.proofs.Lists.{le-or-lt}
 pub back : (a e : ℕ) (l : List ℕ) {p r : List ℕ} → a ≤ e → p ≡ r → putMid a (e - a) l p ≡ splice l a e r
 back a e l h q = rw (q, post-is a e l h)
 
--- the part of a list that is all of it
-pub part-all : (l : List ℕ) → part l 0 (length l) ≡ l
-part-all l = take-all (length l - 0) l (omega arith)
-
 -- a part of the front of a list
 front : (u r : List ℕ) (b f : ℕ) → b ≤ f → f ≤ length u → part (u ++ r) b f ≡ part u b f
 front u r b f v w =

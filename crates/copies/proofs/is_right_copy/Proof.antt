@@ -1,9 +1,8 @@
 -- `copies::is_right_copy` meets its contract. Assumes nothing.
-use Rattle.copies.proofs.Copied.{copy-none, other-small, queue-is, both-read, copy-is}
-use Rattle.places.proofs.Begun.{node-lent}
-use Rattle.layout.proofs.Fits.{nodes-fit}
 use native.Mathlib.Omega.{arith}
 use borrow.Author.Needs.{needs}
+use Rattle.layout.proofs.Fits.{nodes-fit}
+use Rattle.copies.proofs.Copied.{copy-none, other-small, queue-is, both-read, copy-is}
 use Rattle.copies.proofs.is_right_copy.Statement.{statement}
 use Rattle.copies.proofs.is_right_copy.Tie as tie
 
@@ -17,97 +16,52 @@ mul-if1 : tie.Need-mul-if1
 mul-if1 c = search needs
 
 shared-slice-read-if1 : tie.Need-shared-slice-read-if1
-shared-slice-read-if1 c = omega (arith, c .before .before .pre .1, c .before .before .pre .0 .looked .sized .long, nodes-fit (c .before .before .args .s))
+shared-slice-read-if1 c = let y = c .before .before in let x = y .args in omega (arith, y .pre .1, y .pre .0 .looked .sized .long, nodes-fit (x .s))
 
 returns : tie.Need-returns
-returns c = copy-none (c .before .before .before .args .s) (c .before .before .before .args .memory .now) (c .before .before .before .pre .0) (c .before .before .before .args .j) (c .before .before .before .pre .1) (c .if1 .taken)
+returns c = let y = c .before .before .before in let x = y .args in copy-none (x .s) (x .memory .now) (y .pre .0) (x .j) (y .pre .1) (c .if1 .taken)
 
-node-size-requires : tie.Need-node-size-requires
-node-size-requires c κs = search needs
+add-other : tie.Need-add-other
+add-other c = search needs
 
-node-at-requires : tie.Need-node-at-requires
-node-at-requires c κs = search needs
+mul-other : tie.Need-mul-other
+mul-other c = search needs
 
-add-e : tie.Need-add-e
-add-e c = search needs
+shared-slice-read-other : tie.Need-shared-slice-read-other
+shared-slice-read-other c = let y = c .before .before .before .before in let x = y .args in omega (arith, y .pre .1, y .pre .0 .looked .sized .long, nodes-fit (x .s))
 
-add-node-at : tie.Need-add-node-at
-add-node-at c = search needs
+cast-other : tie.Need-cast-other
+cast-other c = let y = c .before .before .before .before in let x = y .args in omega (arith, other-small (x .s) (x .memory .now) (y .pre .0) (x .j) (y .pre .1) (c .before .if1 .left))
 
-mul-node-at : tie.Need-mul-node-at
-mul-node-at c = search needs
+add-held : tie.Need-add-held
+add-held c = search needs
 
-shared-slice-read-node-at : tie.Need-shared-slice-read-node-at
-shared-slice-read-node-at c = omega (arith, c .before .before .before .before .before .before .pre .1, c .before .before .before .before .before .before .pre .0 .looked .sized .long, nodes-fit (c .before .before .before .before .before .before .args .s))
+mul-held : tie.Need-mul-held
+mul-held c = search needs
 
-cast-node-at : tie.Need-cast-node-at
-cast-node-at c = omega (arith, other-small (c .before .before .before .before .before .before .args .s) (c .before .before .before .before .before .before .args .memory .now) (c .before .before .before .before .before .before .pre .0) (c .before .before .before .before .before .before .args .j) (c .before .before .before .before .before .before .pre .1) (c .before .before .before .if1 .left))
+shared-slice-read-held : tie.Need-shared-slice-read-held
+shared-slice-read-held c = let y = c .before .before .before .before .before in let x = y .args in omega (arith, y .pre .1, y .pre .0 .looked .sized .long, nodes-fit (x .s))
 
-node-at-requires-2 : tie.Need-node-at-requires-2
-node-at-requires-2 c κs = (c .before .before .before .before .before .before .pre .0 .looked .sized .range, other-small (c .before .before .before .before .before .before .args .s) (c .before .before .before .before .before .before .args .memory .now) (c .before .before .before .before .before .before .pre .0) (c .before .before .before .before .before .before .args .j) (c .before .before .before .before .before .before .pre .1) (c .before .before .before .if1 .left))
+stretch-requires : tie.Need-stretch-requires
+stretch-requires c κs = search needs
 
-add-g : tie.Need-add-g
-add-g c = search needs
-
-send-kind-requires : tie.Need-send-kind-requires
-send-kind-requires c κs = search needs
+stretch-requires-2 : tie.Need-stretch-requires-2
+stretch-requires-2 c κs = let y = c .before .before .before .before .before .before in let x = y .args in (y .pre .0 .looked .sized, other-small (x .s) (x .memory .now) (y .pre .0) (x .j) (y .pre .1) (c .before .before .before .if1 .left))
 
 send-at-requires : tie.Need-send-at-requires
 send-at-requires c κs = search needs
 
-mul-item : tie.Need-mul-item
-mul-item c = search needs
-
-sub-item : tie.Need-sub-item
-sub-item c = search needs
-
-part-item-start : tie.Need-part-item-start
-part-item-start c = search needs
-
-part-item-end : tie.Need-part-item-end
-part-item-end c = search needs
+send-kind-requires : tie.Need-send-kind-requires
+send-kind-requires c κs = search needs
 
 item-requires : tie.Need-item-requires
-item-requires c κs = queue-is (c .before .before .before .before .before .before .before .before .before .before .args .s) (c .before .before .before .before .before .before .before .before .before .before .args .memory .now) (c .before .before .before .before .before .before .before .before .before .before .pre .0) (c .before .before .before .before .before .before .before .before .before .before .args .j) (c .before .before .before .before .before .before .before .before .before .before .pre .1) (c .before .before .before .before .before .before .before .if1 .left) _ _ _ (c .before .before .send-kind .ensures) (c .before .send-at .ensures .is) (node-lent (c .before .before .before .before .before .before .before .before .before .before .args .s) (c .before .before .before .before .before .before .before .before .before .before .args .memory .now) _ _ _ (c .before .before .before .node-at2 .ensures .is) (c .before .before .before .before .before .before .node-size .ensures .is))
-
-mul-is-same-letter : tie.Need-mul-is-same-letter
-mul-is-same-letter c = search needs
-
-sub-is-same-letter : tie.Need-sub-is-same-letter
-sub-is-same-letter c = search needs
-
-part-is-same-letter-start : tie.Need-part-is-same-letter-start
-part-is-same-letter-start c = search needs
-
-part-is-same-letter-end : tie.Need-part-is-same-letter-end
-part-is-same-letter-end c = search needs
-
-add-is-same-letter : tie.Need-add-is-same-letter
-add-is-same-letter c = search needs
-
-mul-is-same-letter-2 : tie.Need-mul-is-same-letter-2
-mul-is-same-letter-2 c = search needs
-
-shared-slice-read-is-same-letter : tie.Need-shared-slice-read-is-same-letter
-shared-slice-read-is-same-letter c = omega (arith, c .before .before .before .before .before .before .before .before .before .before .before .before .before .pre .1, c .before .before .before .before .before .before .before .before .before .before .before .before .before .pre .0 .looked .sized .long, nodes-fit (c .before .before .before .before .before .before .before .before .before .before .before .before .before .args .s))
-
-mul-is-same-letter-3 : tie.Need-mul-is-same-letter-3
-mul-is-same-letter-3 c = search needs
-
-sub-is-same-letter-2 : tie.Need-sub-is-same-letter-2
-sub-is-same-letter-2 c = search needs
-
-part-is-same-letter-start-2 : tie.Need-part-is-same-letter-start-2
-part-is-same-letter-start-2 c = search needs
-
-part-is-same-letter-end-2 : tie.Need-part-is-same-letter-end-2
-part-is-same-letter-end-2 c = search needs
+item-requires c κs = let y = c .before .before .before .before .before .before .before .before .before in let x = y .args in queue-is (x .s) (x .memory .now) (y .pre .0) (x .j) (y .pre .1) (c .before .before .before .before .before .before .if1 .left) _ _ _ (c .send-kind .ensures) (c .before .send-at .ensures .is) (c .before .before .stretch2 .ensures .0)
 
 is-same-letter-requires : tie.Need-is-same-letter-requires
-is-same-letter-requires c κs = both-read (c .before .before .before .before .before .before .before .before .before .before .before .before .before .before .args .s) (c .before .before .before .before .before .before .before .before .before .before .before .before .before .before .args .memory .now) (c .before .before .before .before .before .before .before .before .before .before .before .before .before .before .pre .0) (c .before .before .before .before .before .before .before .before .before .before .before .before .before .before .args .j) (c .before .before .before .before .before .before .before .before .before .before .before .before .before .before .pre .1) (c .before .before .before .before .before .before .before .before .before .before .before .if1 .left) _ _ _ _ _ (node-lent (c .before .before .before .before .before .before .before .before .before .before .before .before .before .before .args .s) (c .before .before .before .before .before .before .before .before .before .before .before .before .before .before .args .memory .now) (c .before .before .before .before .before .before .before .before .before .before .before .before .before .before .args .j) _ _ (c .before .before .before .before .before .before .before .before .before .node-at .ensures .is) (c .before .before .before .before .before .before .before .before .before .before .node-size .ensures .is)) (node-lent (c .before .before .before .before .before .before .before .before .before .before .before .before .before .before .args .s) (c .before .before .before .before .before .before .before .before .before .before .before .before .before .before .args .memory .now) _ _ _ (c .before .before .before .before .before .before .before .node-at2 .ensures .is) (c .before .before .before .before .before .before .before .before .before .before .node-size .ensures .is)) (c .before .before .before .before .before .before .send-kind .ensures) (c .before .before .before .before .before .send-at .ensures .is) (c .before .before .before .item .ensures)
+is-same-letter-requires c κs = let y = c .before .before .before .before .before .before .before .before .before .before in let x = y .args in both-read (x .s) (x .memory .now) (y .pre .0) (x .j) (y .pre .1) (c .before .before .before .before .before .before .before .if1 .left) _ _ _ _ _ (c .before .before .before .before .stretch .ensures .0) (c .before .before .before .stretch2 .ensures .0) (c .before .send-kind .ensures) (c .before .before .send-at .ensures .is) (c .item .ensures)
 
 returns-2 : tie.Need-returns-2
-returns-2 c = copy-is (c .before .before .before .before .before .before .before .before .before .before .before .before .before .before .before .args .s) (c .before .before .before .before .before .before .before .before .before .before .before .before .before .before .before .args .memory .now) (c .before .before .before .before .before .before .before .before .before .before .before .before .before .before .before .pre .0) (c .before .before .before .before .before .before .before .before .before .before .before .before .before .before .before .args .j) (c .before .before .before .before .before .before .before .before .before .before .before .before .before .before .before .pre .1) (c .before .before .before .before .before .before .before .before .before .before .before .before .if1 .left) _ _ _ _ _ (node-lent (c .before .before .before .before .before .before .before .before .before .before .before .before .before .before .before .args .s) (c .before .before .before .before .before .before .before .before .before .before .before .before .before .before .before .args .memory .now) (c .before .before .before .before .before .before .before .before .before .before .before .before .before .before .before .args .j) _ _ (c .before .before .before .before .before .before .before .before .before .before .node-at .ensures .is) (c .before .before .before .before .before .before .before .before .before .before .before .node-size .ensures .is)) (node-lent (c .before .before .before .before .before .before .before .before .before .before .before .before .before .before .before .args .s) (c .before .before .before .before .before .before .before .before .before .before .before .before .before .before .before .args .memory .now) _ _ _ (c .before .before .before .before .before .before .before .before .node-at2 .ensures .is) (c .before .before .before .before .before .before .before .before .before .before .before .node-size .ensures .is)) (c .before .before .before .before .before .before .before .send-kind .ensures) (c .before .before .before .before .before .before .send-at .ensures .is) (c .before .before .before .before .item .ensures) _ (c .is-same-letter .ensures)
+returns-2 c = let y = c .before .before .before .before .before .before .before .before .before .before .before in let x = y .args in copy-is (x .s) (x .memory .now) (y .pre .0) (x .j) (y .pre .1) (c .before .before .before .before .before .before .before .before .if1 .left) _ _ _ _ _ (c .before .before .before .before .before .stretch .ensures .0) (c .before .before .before .before .stretch2 .ensures .0) (c .before .before .send-kind .ensures) (c .before .before .before .send-at .ensures .is) (c .before .item .ensures) _ (c .is-same-letter .ensures)
 
 pub is-right-copy-spec : {M : Type 1} → statement M
 is-right-copy-spec =
@@ -118,32 +72,17 @@ is-right-copy-spec =
     mul-if1
     shared-slice-read-if1
     returns
-    node-size-requires
-    node-at-requires
-    add-e
-    add-node-at
-    mul-node-at
-    shared-slice-read-node-at
-    cast-node-at
-    node-at-requires-2
-    add-g
-    send-kind-requires
+    add-other
+    mul-other
+    shared-slice-read-other
+    cast-other
+    add-held
+    mul-held
+    shared-slice-read-held
+    stretch-requires
+    stretch-requires-2
     send-at-requires
-    mul-item
-    sub-item
-    part-item-start
-    part-item-end
+    send-kind-requires
     item-requires
-    mul-is-same-letter
-    sub-is-same-letter
-    part-is-same-letter-start
-    part-is-same-letter-end
-    add-is-same-letter
-    mul-is-same-letter-2
-    shared-slice-read-is-same-letter
-    mul-is-same-letter-3
-    sub-is-same-letter-2
-    part-is-same-letter-start-2
-    part-is-same-letter-end-2
     is-same-letter-requires
     returns-2)

@@ -1,47 +1,39 @@
 -- `shapes::are_zero` meets its contract. Assumes nothing.
+use mathlib.Core.Path.{_≡_}
+use Prim.Native.Nat.{_-_, _≤_}
 use native.Mathlib.Omega.{arith}
+use lib.Dec.{eqb}
 use borrow.Author.Needs.{needs}
-use Rattle.shapes.proofs.Clear.{few-none, few-one}
+use Rattle.shapes.specs.Shape.{zeroes}
+use Rattle.shapes.proofs.Clear.{zero-none, zero-more}
 use Rattle.shapes.proofs.are_zero.Statement.{statement}
 use Rattle.shapes.proofs.are_zero.Tie as tie
 
-sub-n : tie.Need-sub-n
-sub-n c = search needs
+abbrev Inv-loop : tie.InvT-loop
+Inv-loop node a e bits₀ i₀ bits i = (a ≤ i) × (i ≤ e) × (eqb bits 0 ≡ zeroes node a i)
 
-bits-of-many-requires : tie.Need-bits-of-many-requires
-bits-of-many-requires c κs = search needs
+abbrev μ-loop : tie.MeasureT-loop
+μ-loop node a e bits₀ i₀ bits i = e - i
 
-returns : tie.Need-returns
-returns c = search needs
+loop-holds : tie.Need-loop-holds Inv-loop μ-loop
+loop-holds c = (omega arith, omega arith, zero-none _ _)
 
-returns-2 : tie.Need-returns-2
-returns-2 c = let y = c .before .before .before .before in let x = y .args in few-none (x .node .now) (x .a) (x .e) (omega (arith, y .pre))
+loop-again : tie.Need-loop-again Inv-loop μ-loop
+loop-again c = let t = c .before .before .loop in (omega arith, omega arith, zero-more _ _ (t .i) (t .bits) (omega arith) (t .inv .2))
 
-mul-result : tie.Need-mul-result
-mul-result c = search needs
-
-shared-slice-read-result : tie.Need-shared-slice-read-result
-shared-slice-read-result c = search needs
-
-returns-3 : tie.Need-returns-3
-returns-3 c = let y = c .before .before .before .before .before in let x = y .args in few-one (x .node .now) (x .a) (x .e) (omega (arith, y .pre))
-
-are-some-zero-requires : tie.Need-are-some-zero-requires
-are-some-zero-requires c κs = search needs
-
-returns-4 : tie.Need-returns-4
-returns-4 c = search needs
+returns : tie.Need-returns Inv-loop μ-loop
+returns c = let x = c .before .before .args in let t = c .before .loop in let q : t .i ≡ x .e = omega arith in rw q at (t .inv .2)
 
 pub are-zero-spec : {M : Type 1} → statement M
 are-zero-spec =
     tie.close
     (tie.spec
-    sub-n
-    bits-of-many-requires
-    returns
-    returns-2
-    mul-result
-    shared-slice-read-result
-    returns-3
-    are-some-zero-requires
-    returns-4)
+    Inv-loop
+    μ-loop
+    loop-holds
+    (λ c. search needs)
+    (λ c. search needs)
+    (λ c. search needs)
+    (λ c. search needs)
+    loop-again
+    returns)

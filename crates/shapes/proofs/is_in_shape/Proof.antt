@@ -2,8 +2,7 @@
 use Prim.Native.Nat.{_+_}
 use native.Mathlib.Omega.{arith}
 use borrow.Author.Needs.{needs}
-use Rattle.shapes.proofs.Steps.{shape-start, shape-items}
-use Rattle.shapes.proofs.Clear.{shape-clear}
+use Rattle.shapes.proofs.Steps.{shape-start, shape-items, shape-clear}
 use Rattle.shapes.proofs.is_in_shape.Statement.{statement}
 use Rattle.shapes.proofs.is_in_shape.Tie as tie
 
@@ -14,13 +13,13 @@ cast-count : tie.Need-cast-count
 cast-count c = omega (arith, c .shared-slice-known3 .given (c .before .before .before .args .q + 1))
 
 returns : tie.Need-returns
-returns c = let x = c .before .before .before .before .before .args in shape-start (x .k) (x .node .now) (x .q) (c .if1 .taken)
+returns c = shape-start _ _ _ (omega arith)
 
 returns-2 : tie.Need-returns-2
-returns-2 c = let x = c .before .before .before .before .before .before .before .args in shape-items (x .k) (x .node .now) (x .q) (c .if2 .taken)
+returns-2 c = shape-items _ _ _ (omega arith)
 
 returns-3 : tie.Need-returns-3
-returns-3 c = let x = c .before .before .before .before .before .before .before .before .args in shape-clear (x .k) (x .node .now) (x .q) (omega arith) (omega arith) _ (c .is-clear .ensures)
+returns-3 c = shape-clear _ _ _ (omega arith) (omega arith) _ (c .is-clear .ensures)
 
 pub is-in-shape-spec : {M : Type 1} → statement M
 is-in-shape-spec =

@@ -1,7 +1,5 @@
 -- `soundness::are_right_nodes` meets its contract. Assumes nothing.
-use Rattle.layout.specs.Places.{nodeAt}
-use Rattle.layout.proofs.MemoryRows.{stretch-next, stretch-left, stretch-in, stretch-all}
-use Rattle.places.specs.Given.{nodeRight}
+use Rattle.soundness.specs.Parts.{nodeRight}
 use Rattle.sound.proofs.Tests.{every-none, turn-no, turn-more, turn-all}
 use Rattle.words.specs.Words.{every}
 use borrow.Author.Tests.{not-true, not-false}
@@ -14,40 +12,33 @@ use Rattle.soundness.proofs.are_right_nodes.Statement.{statement}
 use Rattle.soundness.proofs.are_right_nodes.Tie as tie
 
 abbrev Inv-loop : tie.InvT-loop
-Inv-loop memory s seats size a₀ i₀ a i = (i ≤ 6) × (a ≡ nodeAt s i) × (every i (nodeRight s memory) ≡ true)
+Inv-loop memory s seats i₀ i = (i ≤ 6) × (every i (nodeRight s memory) ≡ true)
 
 abbrev μ-loop : tie.MeasureT-loop
-μ-loop memory s seats size a₀ i₀ a i = 6 - i
-
-node-size-requires : tie.Need-node-size-requires Inv-loop μ-loop
-node-size-requires c κs = search needs
-
-node-at-requires : tie.Need-node-at-requires Inv-loop μ-loop
-node-at-requires c κs = search needs
+μ-loop memory s seats i₀ i = 6 - i
 
 loop-holds : tie.Need-loop-holds Inv-loop μ-loop
-loop-holds c = (omega arith, c .node-at .ensures .is, every-none _)
+loop-holds c = (omega arith, every-none _)
 
 is-right-node-requires : tie.Need-is-right-node-requires Inv-loop μ-loop
-is-right-node-requires c κs = let y = c .before .before .before .before .before .before in let x = y .args in let t = c .before .loop in (y .pre .0, (y .pre .1, stretch-left (x .s) (x .memory .now) (y .pre .0 .sized) (t .i) (t .a) (t .inv .0) (t .inv .1) (c .loop-test .taken)))
+is-right-node-requires c κs = search needs
 
 returns : tie.Need-returns Inv-loop μ-loop
-returns c = let y = c .before .before .before .before .before .before .before .before in let x = y .args in let t = c .before .before .before .loop in turn-no (nodeRight (x .s) (x .memory .now)) 6 (t .i) (stretch-left (x .s) (x .memory .now) (y .pre .0 .sized) (t .i) (t .a) (t .inv .0) (t .inv .1) (c .before .before .loop-test .taken)) _ (c .before .is-right-node .ensures) (not-true _ (c .if1 .taken))
-
-add-a : tie.Need-add-a Inv-loop μ-loop
-add-a c = let y = c .before .before .before .before .before .before .before .before in let x = y .args in let t = c .before .before .before .loop in omega (arith, stretch-in (x .s) (x .memory .now) (y .pre .0 .sized) (t .i) (t .a) (t .inv .0) (t .inv .1) (c .before .before .loop-test .taken))
+unfolding nodeRight
+returns c = turn-no (nodeRight (c .before .before .before .before .before .args .s) (c .before .before .before .before .before .args .memory .now)) 6 (c .before .before .before .loop .i) (omega arith) _ (c .before .is-right-node .ensures) (not-true _ (c .if1 .taken))
 
 add-i : tie.Need-add-i Inv-loop μ-loop
 add-i c = search needs
 
 loop-less : tie.Need-loop-less Inv-loop μ-loop
-loop-less c = let y = c .before .before .before .before .before .before .before .before in let x = y .args in let t = c .before .before .before .loop in omega (arith, stretch-left (x .s) (x .memory .now) (y .pre .0 .sized) (t .i) (t .a) (t .inv .0) (t .inv .1) (c .before .before .loop-test .taken))
+loop-less c = search needs
 
 loop-again : tie.Need-loop-again Inv-loop μ-loop
-loop-again c = let y = c .before .before .before .before .before .before .before .before in let x = y .args in let t = c .before .before .before .loop in (omega (arith, stretch-left (x .s) (x .memory .now) (y .pre .0 .sized) (t .i) (t .a) (t .inv .0) (t .inv .1) (c .before .before .loop-test .taken)), omega (arith, t .inv .1, c .before .before .before .before .before .node-size .ensures .is, stretch-next (x .s) (t .i)), turn-more (nodeRight (x .s) (x .memory .now)) 6 (t .i) (t .inv .2) _ (c .before .is-right-node .ensures) (not-false _ (c .if1 .left)))
+unfolding nodeRight
+loop-again c = (omega arith, turn-more (nodeRight (c .before .before .before .before .before .args .s) (c .before .before .before .before .before .args .memory .now)) 6 (c .before .before .before .loop .i) (c .before .before .before .loop .inv .1) _ (c .before .is-right-node .ensures) (not-false _ (c .if1 .left)))
 
 returns-2 : tie.Need-returns-2 Inv-loop μ-loop
-returns-2 c = let y = c .before .before .before .before .before .before in let x = y .args in let t = c .before .loop in turn-all (nodeRight (x .s) (x .memory .now)) 6 (t .i) (stretch-all (x .s) (x .memory .now) (y .pre .0 .sized) (t .i) (t .a) (t .inv .0) (t .inv .1) (c .loop-test .left)) (t .inv .2)
+returns-2 c = turn-all (nodeRight (c .before .before .before .args .s) (c .before .before .before .args .memory .now)) 6 (c .before .loop .i) (omega arith) (c .before .loop .inv .1)
 
 pub are-right-nodes-spec : {M : Type 1} → statement M
 are-right-nodes-spec =
@@ -55,12 +46,9 @@ are-right-nodes-spec =
     (tie.spec
     Inv-loop
     μ-loop
-    node-size-requires
-    node-at-requires
     loop-holds
     is-right-node-requires
     returns
-    add-a
     add-i
     loop-less
     loop-again

@@ -19,7 +19,7 @@ mul-stage : tie.Need-mul-stage
 mul-stage c = omega (arith, c .before .pre .1)
 
 shared-slice-read-stage : tie.Need-shared-slice-read-stage
-shared-slice-read-stage c = omega (arith, c .before .before .pre .1, c .before .before .pre .0 .long, nodes-fit (c .before .before .args .s))
+shared-slice-read-stage c = omega (arith, c .before .before .pre .1, c .before .before .pre .0 .sized .long, nodes-fit (c .before .before .args .s))
 
 add-other : tie.Need-add-other
 add-other c = search needs
@@ -28,7 +28,7 @@ mul-other : tie.Need-mul-other
 mul-other c = search needs
 
 shared-slice-read-other : tie.Need-shared-slice-read-other
-shared-slice-read-other c = omega (arith, c .before .before .before .pre .1, c .before .before .before .pre .0 .long, nodes-fit (c .before .before .before .args .s))
+shared-slice-read-other c = omega (arith, c .before .before .before .pre .1, c .before .before .before .pre .0 .sized .long, nodes-fit (c .before .before .before .args .s))
 
 cast-other : tie.Need-cast-other
 cast-other c = omega (arith, c .shared-slice-known3 .given (6 + c .before .before .before .args .j * 3 + 1))
@@ -40,7 +40,7 @@ mul-held : tie.Need-mul-held
 mul-held c = search needs
 
 shared-slice-read-held : tie.Need-shared-slice-read-held
-shared-slice-read-held c = omega (arith, c .before .before .before .before .pre .1, c .before .before .before .before .pre .0 .long, nodes-fit (c .before .before .before .before .args .s))
+shared-slice-read-held c = omega (arith, c .before .before .before .before .pre .1, c .before .before .before .before .pre .0 .sized .long, nodes-fit (c .before .before .before .before .args .s))
 
 cast-held : tie.Need-cast-held
 cast-held c = omega (arith, c .shared-slice-known4 .given (6 + c .before .before .before .before .args .j * 3 + 2))

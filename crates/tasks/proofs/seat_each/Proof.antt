@@ -1,38 +1,38 @@
--- `tasks::seat_each` meets its contract: what is joined of the ids so far is 0 where they are right. Assumes nothing.
+-- `tasks::seat_each` meets its contract: a seat is free while nobody sits there. Assumes nothing.
 use mathlib.Core.Path.{_≡_, sym, _∙_}
-use Prim.Native.Nat.{_+_, _*_, _-_, _≤_}
+use mathlib.Core.Bool.{false≢true}
+use mathlib.Core.Logic.{⊎-elim}
+use Prim.Native.Nat.{_≤_, _-_}
 use native.Mathlib.Omega.{arith}
-use lib.ListN.{length}
 use borrow.Author.Needs.{needs}
-use Rattle.tasks.proofs.Marks.{So, so-none, so-more, row-size, told-all}
+use borrow.Author.Tests.{not-true, not-false}
+use Rattle.tasks.proofs.Marks.{Good, good-start, good-none, good-seat, bad-seat, bad-node, bad-queue, good-end}
 use Rattle.tasks.proofs.seat_each.Statement.{statement}
 use Rattle.tasks.proofs.seat_each.Tie as tie
 
 abbrev Inv-loop : tie.InvT-loop
-Inv-loop table seats₀ odd₀ k₀ seats odd k = (k ≤ 128) × (length seats ≡ 512) × So table (k * 2) seats odd
+Inv-loop table seats₀ id₀ seats id = (id ≤ 256) × Good table id seats
 
 abbrev μ-loop : tie.MeasureT-loop
-μ-loop table seats₀ odd₀ k₀ seats odd k = 128 - k
+μ-loop table seats₀ id₀ seats id = 256 - id
 
 loop-holds : tie.Need-loop-holds Inv-loop μ-loop
-loop-holds c = let r = so-none _ _ (c .before .before .bar-rest .ensures) in (omega arith, row-size _ 0 _ (r .0), r)
-
-loop-again : tie.Need-loop-again Inv-loop μ-loop
-loop-again c =
-    let t = c .before .before .before .before .before .before .before .before .before .loop in
-    let y = c .before .before .before .before .before .before .before .before .before .before .before .before .before .before .before .before in
-    let table = y .args .table .now in
-    let k = t .k in
-    let one = so-more table (k * 2) (t .odd) (t .seats) (omega arith) (y .pre .1 .0) (t .inv .2) _ _ (c .before .before .before .before .before .before .seat-one .ensures .0) (c .before .before .before .before .before .before .seat-one .ensures .1) in
-    let two = so-more table (k * 2 + 1) _ _ (omega arith) (y .pre .1 .0) one _ _ (c .before .before .seat-one2 .ensures .0) (c .before .before .seat-one2 .ensures .1) in
-    let e : k * 2 + 1 + 1 ≡ (k + 1) * 2 = omega arith in
-    (omega arith, row-size table (k * 2 + 1 + 1) _ (two .0), rw e at two)
-
-same-length : tie.Need-same-length Inv-loop μ-loop
-same-length c = c .before .loop .inv .1 ∙ sym (rw (c .before .before .before .before .before .before .before .before .pre .1 .1))
+loop-holds c = (omega arith, good-start _ _ (c .before .pre .1 .1))
 
 returns : tie.Need-returns Inv-loop μ-loop
-returns c = let t = c .before .loop in let q : t .k ≡ 128 = omega arith in let s = rw q at (t .inv) in (told-all _ (t .odd) (s .2 .1), λ z. s .2 .0)
+returns c = (bad-node _ _ (omega arith) (sym (c .before .before .before .before .holds-none .ensures) ∙ not-true _ (c .before .before .before .if1 .taken)) (omega arith), λ z. absurd (false≢true z))
+
+returns-2 : tie.Need-returns-2 Inv-loop μ-loop
+returns-2 c = (bad-queue _ _ (omega arith) (sym (c .before .before .before .before .before .holds-none .ensures) ∙ not-true _ (c .before .before .before .before .if1 .taken)) (omega arith), λ z. absurd (false≢true z))
+
+returns-3 : tie.Need-returns-3 Inv-loop μ-loop
+returns-3 c = (bad-seat _ _ _ (c .before .before .before .before .before .before .before .before .before .loop .inv .1) (sym (c .before .before .before .before .before .before .before .holds-none .ensures) ∙ not-true _ (c .before .before .before .before .before .before .if1 .taken)) (omega arith) (omega arith) (omega arith) (c .if4 .taken), λ z. absurd (false≢true z))
+
+loop-again : tie.Need-loop-again Inv-loop μ-loop
+loop-again c = ⊎-elim (λ w. (omega arith, rw (w .7) (good-seat _ _ _ (c .before .before .before .loop .inv .1) (sym (c .before .holds-none .ensures) ∙ not-true _ (w .0 .taken)) (omega arith) (omega arith) (omega arith) (c .before .before .before .before .before .pre .1 .0) (w .6 .left)))) (λ w. (omega arith, rw (w .1) (good-none _ _ _ (c .before .before .before .loop .inv .1) (sym (c .before .holds-none .ensures) ∙ not-false _ (w .0 .left))))) (c .if1 .came)
+
+returns-4 : tie.Need-returns-4 Inv-loop μ-loop
+returns-4 c = let q : c .before .loop .id ≡ 256 = omega arith in let g = rw q at (c .before .loop .inv .1) in (good-end _ _ g, λ z. g .is)
 
 pub seat-each-spec : {M : Type 1} → statement M
 seat-each-spec =
@@ -40,15 +40,26 @@ seat-each-spec =
     (tie.spec
     Inv-loop
     μ-loop
-    (λ c κs. search needs)
     loop-holds
-    (λ c. search needs)
     (λ c κs. search needs)
     (λ c. search needs)
     (λ c. search needs)
-    (λ c κs. search needs)
+    (λ c. search needs)
+    (λ c. search needs)
+    (λ c. search needs)
+    (λ c. search needs)
+    (λ c. search needs)
+    returns
+    returns-2
+    (λ c. search needs)
+    (λ c. search needs)
+    (λ c. search needs)
+    (λ c. search needs)
+    (λ c. search needs)
+    returns-3
+    (λ c. search needs)
+    (λ c. search needs)
     (λ c. search needs)
     (λ c. search needs)
     loop-again
-    same-length
-    returns)
+    returns-4)
