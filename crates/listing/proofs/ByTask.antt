@@ -2,12 +2,11 @@
 use mathlib.Core.Path.{_≡_, refl, sym, ap, ap₂, _∙_}
 use mathlib.Core.Bool.{true, false, cond, false≢true}
 use mathlib.Core.List.{List, [], _∷_, _++_, append-nil, append-assoc}
-use mathlib.Core.Logic.{⊎-elim}
 use Prim.Native.Nat.{ℕ, zero, suc, _+_, _-_, _*_, _/_, _%_, _≤_, _<_}
 use native.Mathlib.Nat.{mod-lt, mod-eq-of-lt, div-eq-of-lt-le, div-lt-iff-lt-mul, mul-add-mod-self-right}
 use native.Mathlib.Omega.{arith}
 use borrow.Author.Tests.{eq-eqb, ne-eqb}
-use Rattle.words.proofs.Lists.{split, same?, le-or-lt}
+use Rattle.words.proofs.Lists.{split, same?}
 use Rattle.settings.specs.declared.Settings.{Settings}
 use Rattle.layout.specs.Places.{nodes, taskIds, sendAt, node}
 use Rattle.layout.specs.Numbers.{destinationTaskWord}
@@ -19,12 +18,13 @@ use Rattle.sound.specs.Reading.{tableIn}
 use Rattle.showing.specs.declared.Shown.{Shown}
 use Rattle.showing.specs.List.{wordIn, shown, handedOver, fromTask, fromSend, waiting, fromNodes, ofTask, ofTasks}
 use Rattle.showing.proofs.Waiting.{waiting-run}
-use Rattle.counting.specs.Asked.{Asked, keptOf, keptBelow, sentFrom, sentBelow, forTask}
-use Rattle.counting.proofs.Given.{named-id, asked-table, asked-named}
-use Rattle.counting.proofs.Placing.{for-append}
+use Rattle.listing.specs.Asked.{Asked, keptOf, keptBelow, sentFrom, sentBelow, everyLetter}
+use Rattle.listing.proofs.Given.{named-id, asked-table, asked-named}
+use Rattle.listing.proofs.Orders.{below}
+use Rattle.listing.proofs.Placing.{forTask, for-append}
 use Rattle.listing.proofs.Spread.{Ids, sorted}
 
-pub ids-append : (xs ys : List Shown) → Ids xs → Ids ys → Ids (xs ++ ys)
+ids-append : (xs ys : List Shown) → Ids xs → Ids ys → Ids (xs ++ ys)
 ids-append [] ys a b = b
 ids-append (x ∷ xs) ys a b = (a .0, ids-append xs ys (a .1) b)
 
@@ -40,7 +40,7 @@ module _ (s : Settings) (memory : List ℕ) where
   for-other t u i h [] = refl
   for-other t u i h (b ∷ bs) = rw (ne-eqb u t h) (for-other t u i h bs)
 
-  pub own-kept : (t : ℕ) → forTask t (keptOf s memory t) ≡ keptOf s memory t
+  own-kept : (t : ℕ) → forTask t (keptOf s memory t) ≡ keptOf s memory t
   unfolding keptOf
   own-kept t = split (isBound (tableIn memory) t) (λ e. rw e (for-own t (nodeOf (tableIn memory) t) _)) (λ e. rw e)
 
@@ -62,10 +62,7 @@ module _ (s : Settings) (memory : List ℕ) where
       for-append t (keptBelow s memory n) (keptOf s memory n)
       ∙ same? n t
       (λ q e. rw q (ap₂ (λ (x y : List Shown). x ++ y) (before-kept t t (omega arith)) (own-kept t)))
-      (λ q e. ap₂ (λ (x y : List Shown). x ++ y) (all-kept t n (below q)) (other-kept t n q) ∙ append-nil (keptOf s memory t))
-    where
-      below : (n ≡ t → ⊥) → t < n
-      below q = ⊎-elim (λ l. absurd (q (omega arith))) (λ l. l) (le-or-lt n t)
+      (λ q e. ap₂ (λ (x y : List Shown). x ++ y) (all-kept t n (below t n (omega arith) (λ z. q (sym z)))) (other-kept t n q) ∙ append-nil (keptOf s memory t))
 
   -- ---- the letters that wait: those for task t
   for-sent : (t j : ℕ) (bs : List ℕ) → forTask t (sentFrom s memory j bs) ≡ fromSend s memory t j bs
@@ -132,13 +129,10 @@ module _ (s : Settings) (memory : List ℕ) where
         for-row t n
         ∙ same? n i
         (λ q z. rw q (ap (λ (x : List Shown). x ++ fromNodes s memory t i 6) (before-sent i (omega arith) (λ k l b m. omega arith))))
-        (λ q z. ap₂ (λ (x y : List Shown). x ++ y) (all-sent i e n (below q) (omega arith)) (none-nodes n (omega arith) (λ b m. q (sym m ∙ e)) 6 (omega arith)) ∙ append-nil (fromNodes s memory t i 6))
-      where
-        below : (n ≡ i → ⊥) → i < n
-        below q = ⊎-elim (λ l. absurd (q (omega arith))) (λ l. l) (le-or-lt n i)
+        (λ q z. ap₂ (λ (x y : List Shown). x ++ y) (all-sent i e n (below i n (omega arith) (λ y. q (sym y))) (omega arith)) (none-nodes n (omega arith) (λ b m. q (sym m ∙ e)) 6 (omega arith)) ∙ append-nil (fromNodes s memory t i 6))
 
     -- a task's letters: those of its queue, and those that wait for it
-    pub of-task : ofTask s memory t ≡ keptOf s memory t ++ forTask t (sentBelow s memory (nodes * nodes))
+    of-task : ofTask s memory t ≡ keptOf s memory t ++ forTask t (sentBelow s memory (nodes * nodes))
     unfolding ofTask keptOf
     of-task =
         split (isBound (tableIn memory) t)
@@ -147,19 +141,16 @@ module _ (s : Settings) (memory : List ℕ) where
         rw (e, all-sent (nodeOf (tableIn memory) t) refl 6 (b .0) (omega arith)))
         (λ e. rw (e, before-sent 6 (omega arith) (λ k l b m. let z : true ≡ false = sym b ∙ e in false≢true (sym z))))
 
-  -- ---- all letters of a sound memory: those of the tasks' queues, then those that wait
-  unfoldable pub every-letter : List Shown
-  every-letter = keptBelow s memory taskIds ++ sentBelow s memory (nodes * nodes)
-
+  -- ---- all letters of a sound memory
   module _ (a : Asked s memory) where
-    pub by-task : (t : ℕ) → t < taskIds → forTask t every-letter ≡ ofTask s memory t
-    unfolding every-letter
+    by-task : (t : ℕ) → t < taskIds → forTask t (everyLetter s memory) ≡ ofTask s memory t
+    unfolding everyLetter
     by-task t h =
         for-append t (keptBelow s memory taskIds) (sentBelow s memory 36)
         ∙ ap (λ (x : List Shown). x ++ forTask t (sentBelow s memory 36)) (all-kept t taskIds h)
         ∙ sym (of-task a t)
 
-    pub sorted-tasks : (n : ℕ) → n ≤ taskIds → sorted every-letter n ≡ ofTasks s memory n
+    pub sorted-tasks : (n : ℕ) → n ≤ taskIds → sorted (everyLetter s memory) n ≡ ofTasks s memory n
     unfolding sorted ofTasks
     sorted-tasks zero h = refl
     sorted-tasks (suc n) h = ap₂ (λ (x y : List Shown). x ++ y) (sorted-tasks n (omega arith)) (by-task n (omega arith))
@@ -199,6 +190,6 @@ module _ (s : Settings) (memory : List ℕ) where
         let j : c % 6 < 6 = mod-lt c {m = 6} (omega arith) in
         ids-append (sentBelow s memory c) (sentFrom s memory (c % 6) (waiting s memory (c / 6) (c % 6))) (ids-sent c (omega arith)) (ids-waiting (c / 6) (c % 6) i j)
 
-    pub ids-all : Ids every-letter
-    unfolding every-letter
+    pub ids-all : Ids (everyLetter s memory)
+    unfolding everyLetter
     ids-all = ids-append (keptBelow s memory taskIds) (sentBelow s memory 36) (ids-below 256 (omega arith)) (ids-sent 36 (omega arith))

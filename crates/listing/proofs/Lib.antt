@@ -1,7 +1,10 @@
-pub mod Laid
-pub mod Kept
+pub mod Orders
+pub mod Laying
+pub mod Placing
+pub mod Letters
+pub mod Given
+pub mod Few
+pub mod Adding
 pub mod Spread
 pub mod ByTask
-pub mod Rooms
 pub mod Outcomes
-pub mod Refused

@@ -14,20 +14,21 @@ use Rattle.layout.specs.Numbers.{listWords}
 use Rattle.letters.specs.Letter.{onto}
 use Rattle.showing.specs.declared.Shown.{Shown}
 use Rattle.showing.specs.List.{laidOut}
-use Rattle.counting.specs.Asked.{Rows, placed, forTask}
-use Rattle.counting.proofs.Placing.{rows, place, for-append}
-use Rattle.listing.proofs.Laid.{laid-append, length-laid, letter-room}
+use Rattle.listing.specs.Asked.{Rows, placed}
+use Rattle.listing.proofs.Orders.{below, climbs}
+use Rattle.listing.proofs.Placing.{rows, place, forTask, for-append}
+use Rattle.listing.proofs.Laying.{laid-append, length-laid, letter-room}
 
 -- ---- a word of a list after a run of stores
-pub sets-below : (l : List ℕ) (a : ℕ) (p : List ℕ) (k : ℕ) → k < a → getD (sets l a p) k 0 ≡ getD l k 0
+sets-below : (l : List ℕ) (a : ℕ) (p : List ℕ) (k : ℕ) → k < a → getD (sets l a p) k 0 ≡ getD l k 0
 sets-below l a [] k h = refl
 sets-below l a (v ∷ p) k h = sets-below (set l a v) (suc a) p k (omega arith) ∙ getD-set-other l a k v 0 (λ e. omega arith)
 
-pub sets-above : (l : List ℕ) (a : ℕ) (p : List ℕ) (k : ℕ) → a + length p ≤ k → getD (sets l a p) k 0 ≡ getD l k 0
+sets-above : (l : List ℕ) (a : ℕ) (p : List ℕ) (k : ℕ) → a + length p ≤ k → getD (sets l a p) k 0 ≡ getD l k 0
 sets-above l a [] k h = refl
 sets-above l a (v ∷ p) k h = sets-above (set l a v) (suc a) p k (omega arith) ∙ getD-set-other l a k v 0 (λ e. omega arith)
 
-pub sets-in : (l : List ℕ) (a : ℕ) (p : List ℕ) (j : ℕ) → a + length p ≤ length l → j < length p → getD (sets l a p) (a + j) 0 ≡ getD p j 0
+sets-in : (l : List ℕ) (a : ℕ) (p : List ℕ) (j : ℕ) → a + length p ≤ length l → j < length p → getD (sets l a p) (a + j) 0 ≡ getD p j 0
 sets-in l a [] j h g = absurd (omega arith)
 sets-in l a (v ∷ p) zero h g =
     let e : a + 0 ≡ a = omega arith in
@@ -40,11 +41,11 @@ sets-in l a (v ∷ p) (suc j) h g =
 pub record Stands (out : List ℕ) (n : ℕ) (xs : List Shown) : Type 0 where
   pub words : (k : ℕ) → k < length xs * listWords → getD out (n * listWords + k) 0 ≡ getD (laidOut xs) k 0
 
-pub stands-none : (out : List ℕ) (n : ℕ) → Stands out n []
+stands-none : (out : List ℕ) (n : ℕ) → Stands out n []
 stands-none out n = record { words = λ k h. absurd (omega arith) }
 
 -- letters behind letters
-pub stands-join : (out : List ℕ) (n : ℕ) (xs ys : List Shown) → Stands out n xs → Stands out (n + length xs) ys → Stands out n (xs ++ ys)
+stands-join : (out : List ℕ) (n : ℕ) (xs ys : List Shown) → Stands out n xs → Stands out (n + length xs) ys → Stands out n (xs ++ ys)
 stands-join out n xs ys a b = record { words = words }
   where
     words : (k : ℕ) → k < length (xs ++ ys) * listWords → getD out (n * listWords + k) 0 ≡ getD (laidOut (xs ++ ys)) k 0
@@ -65,7 +66,7 @@ stands-join out n xs ys a b = record { words = words }
         (le-or-lt (length (laidOut xs)) k)
 
 -- what is stored elsewhere leaves them
-pub stands-apart : (out : List ℕ) (n : ℕ) (xs : List Shown) (a : ℕ) (x : Shown) → Stands out n xs → (n + length xs ≤ a) ⊎ (a + 1 ≤ n)
+stands-apart : (out : List ℕ) (n : ℕ) (xs : List Shown) (a : ℕ) (x : Shown) → Stands out n xs → (n + length xs ≤ a) ⊎ (a + 1 ≤ n)
     → Stands (sets out (a * listWords) (laidOut (x ∷ []))) n xs
 stands-apart out n xs a x s d =
     record {
@@ -77,7 +78,7 @@ stands-apart out n xs a x s d =
     }
 
 -- a letter that is laid stands
-pub stands-one : (out : List ℕ) (a : ℕ) (x : Shown) → a * listWords + listWords ≤ length out → Stands (sets out (a * listWords) (laidOut (x ∷ []))) a (x ∷ [])
+stands-one : (out : List ℕ) (a : ℕ) (x : Shown) → a * listWords + listWords ≤ length out → Stands (sets out (a * listWords) (laidOut (x ∷ []))) a (x ∷ [])
 stands-one out a x h = record { words = λ k g. sets-in out (a * listWords) (laidOut (x ∷ [])) k (omega (arith, length-laid (x ∷ []))) (omega (arith, length-laid (x ∷ []))) }
 
 -- ---- each letter is for a task
@@ -91,17 +92,12 @@ module _ (all : List Shown) where
   sorted zero = []
   sorted (suc n) = sorted n ++ forTask n all
 
-  pub sorted-more : (n : ℕ) → length (sorted (suc n)) ≡ length (sorted n) + length (forTask n all)
+  sorted-more : (n : ℕ) → length (sorted (suc n)) ≡ length (sorted n) + length (forTask n all)
   unfolding sorted
   sorted-more n = length-append (sorted n) (forTask n all)
 
   sorted-le : (m n : ℕ) → m ≤ n → length (sorted m) ≤ length (sorted n)
-  sorted-le m zero h = let e : m ≡ 0 = omega arith in rw e (omega arith)
-  sorted-le m (suc n) h =
-      ⊎-elim
-      (λ g. let e : m ≡ suc n = omega arith in rw e (omega arith))
-      (λ g. omega (arith, sorted-le m n (omega arith), sorted-more n))
-      (le-or-lt (suc n) m)
+  sorted-le = climbs (λ n. length (sorted n)) (λ n. omega (arith, sorted-more n))
 
   -- of all letters those of `past` are placed; out was `old`, which has room for all
   pub record Spread (old : List ℕ) (past : List Shown) (r : Rows) : Type 0 where
@@ -152,12 +148,9 @@ module _ (all : List Shown) where
       other-stands t g e =
           stands-apart (r .out) (length (sorted t)) (forTask t past) n x (i .stands t g)
           (⊎-elim
-          (λ l. inr (omega (arith, next, sorted-le (suc d) t (strict l))))
+          (λ l. inr (omega (arith, next, sorted-le (suc d) t (below d t l e))))
           (λ l. inl (omega (arith, i .rank d h, fewer t, sorted-more t, sorted-le (suc t) d (omega arith))))
           (le-or-lt d t))
-        where
-          strict : d ≤ t → suc d ≤ t
-          strict l = ⊎-elim (λ m. m) (λ m. absurd (e (omega arith))) (le-or-lt (suc d) t)
 
       step-out : Spread old (past ++ x ∷ []) (rows (set (r .ranks) d (n + 1)) laid)
       step-out =
@@ -175,7 +168,7 @@ module _ (all : List Shown) where
               (λ e z. rw (← e) (getD-set-same (r .ranks) d (n + 1) 0 (omega (arith, i .long)) ∙ omega (arith, i .rank d h, ap length same, length-append (forTask d past) (x ∷ []))))
               (λ e z. getD-set-other (r .ranks) d t (n + 1) 0 (λ y. e (sym y)) ∙ i .rank t g ∙ ap (λ (l : List Shown). length (sorted t) + length l) (sym (other t e)))
 
-      pub step : Spread old (past ++ x ∷ []) (place x r)
+      step : Spread old (past ++ x ∷ []) (place x r)
       step = rw (← letter-room x n (r .out) within) step-out
 
     -- all that are left

@@ -1,21 +1,20 @@
 // List: the call that shows every letter on its way.
 use answers::Answer;
 use settings::Settings;
+use showing::Shown;
 use tasks::Seat;
 ghost use mathlib.Core.Path.{_≡_};
 ghost use mathlib.Core.Bool.{true};
 ghost use mathlib.Core.List.{[], _∷_};
 ghost use Prim.Native.Nat.{_*_, _+_, _≤_, _<_};
 ghost use lib.ListN.{length};
+ghost use Rattle.words.specs.Count.{sum};
 ghost use Rattle.layout.specs.Places.{nodes, taskIds, taskQueues};
-ghost use Rattle.layout.specs.Numbers.{listWords};
 ghost use Rattle.queues.specs.Items.{live};
 ghost use Rattle.sound.specs.Reading.{taskItems};
 ghost use Rattle.sound.specs.Sound.{sound};
-ghost use Rattle.showing.specs.List.{shown, fromTask, waiting};
-ghost use Rattle.showing.specs.Asked.{Begins};
-ghost use Rattle.counting.specs.Asked.{Asked, Few, laidIn, placed, Low, keptOf, Noted, keptBelow, sentFrom, sentBelow};
-ghost use Rattle.listing.specs.Asked.{Laid, Room};
+ghost use Rattle.showing.specs.List.{fromTask, waiting};
+ghost use Rattle.listing.specs.Asked.{Asked, laidAt, placed, Low, keptOf, keptBelow, sentFrom, sentBelow, everyLetter, numbers, Ranked};
 ghost use Rattle.listing.specs.Outcome.{told, list};
 
 // What a list answers: the number of letters, or why not.
@@ -25,125 +24,90 @@ pub enum Listed {
     OutTooShort(u32),
 }
 
-// The six words of the letter that block b begins in node i, behind the n letters that stand in out.
-fn list_letter(
-    memory: &[u32],
-    s: Settings,
-    task: u32,
-    place: u32,
-    i: u32,
-    b: u32,
-    out: &mut [u32],
-    n: usize,
-)
-    requires { ⌜ Begins s (now memory) i b ⌝ }
-    requires { ⌜ Few n 1 ⌝ }
-    requires { ⌜ n * listWords + listWords ≤ length (now out) ⌝ }
-    ensures { λ _. ⌜ now (out .exit) ≡ laidIn (shown s (now (memory .entry)) task place i b ∷ []) n (now (out .entry)) ⌝ }
+// The six words of a letter behind n letters in out, where out has room for them.
+fn lay(out: &mut [u32], n: u32, x: Shown)
+    ensures { λ _. ⌜ now (out .exit) ≡ laidAt x n (now (out .entry)) ⌝ }
 {
-    let at = n * 6;
-    let x = showing::shown_at(memory, s, task, place, i, b);
-    out[at] = x.destination;
-    out[at + 1] = x.source;
-    out[at + 2] = x.place;
-    out[at + 3] = x.holder;
-    out[at + 4] = x.block;
-    out[at + 5] = x.body;
-}
-
-// The letter that an item of node i's task queue begins, behind the n letters in out; a gap begins none.
-fn list_kept(
-    memory: &[u32],
-    s: Settings,
-    task: u32,
-    i: u32,
-    b: u32,
-    out: &mut [u32],
-    n: usize,
-) -> usize
-    requires { ⌜ ((b ≡ 0 → ⊥) → Begins s (now memory) i b) ⌝ }
-    requires { ⌜ Few n 1 ⌝ }
-    requires { ⌜ ((b ≡ 0 → ⊥) → n * listWords + listWords ≤ length (now out)) ⌝ }
-    ensures { λ r. ⌜ Laid (fromTask s (now (memory .entry)) task i (live (b ∷ []))) n (now (out .entry)) r (now (out .exit)) ⌝ }
-{
-    if b == 0 {
-        return n;
+    let at = n as usize * 6;
+    if at + 6 <= out.len() {
+        out[at] = x.destination;
+        out[at + 1] = x.source;
+        out[at + 2] = x.place;
+        out[at + 3] = x.holder;
+        out[at + 4] = x.block;
+        out[at + 5] = x.body;
     }
-    list_letter(memory, s, task, 1, i, b, out, n);
-    n + 1
 }
 
-// The letters of node i's task queue q, first to last, behind the n letters in out.
+// A letter at its task's rank, which rises by one.
+fn list_letter(x: Shown, ranks: &mut [u32; 256], out: &mut [u32])
+    requires { ⌜ x .destination < taskIds ⌝ }
+    requires { ⌜ Low (now ranks) 1 ⌝ }
+    ensures { λ _. ⌜ record { ranks = now (ranks .exit); out = now (out .exit) } ≡ placed (x ∷ []) (record { ranks = now (ranks .entry); out = now (out .entry) }) ⌝ }
+{
+    let t = x.destination as usize;
+    let n = ranks[t];
+    ranks[t] = n + 1;
+    lay(out, n, x);
+}
+
+// The letters of node i's task queue q, which is the task's, first to last; gaps are passed over.
 fn list_task_queue(
     memory: &[u32],
     s: Settings,
     task: u32,
     i: u32,
     q: u32,
+    ranks: &mut [u32; 256],
     out: &mut [u32],
-    n: usize,
-) -> usize
+)
     requires { ⌜ Asked s (now memory) ⌝ }
+    requires { ⌜ task < taskIds ⌝ }
     requires { ⌜ (i < nodes) × (q < taskQueues) ⌝ }
-    requires { ⌜ Few n 255 ⌝ }
-    requires { ⌜ (n + length (live (taskItems s (now memory) i q))) * listWords ≤ length (now out) ⌝ }
-    ensures { λ r. ⌜ Laid (fromTask s (now (memory .entry)) task i (live (taskItems s (now (memory .entry)) i q))) n (now (out .entry)) r (now (out .exit)) ⌝ }
+    requires { ⌜ Low (now ranks) 255 ⌝ }
+    ensures { λ _. ⌜ record { ranks = now (ranks .exit); out = now (out .exit) } ≡ placed (fromTask s (now (memory .entry)) task i (live (taskItems s (now (memory .entry)) i q))) (record { ranks = now (ranks .entry); out = now (out .entry) }) ⌝ }
 {
     let k = queues::task_kind(s);
     let at = layout::task_at(s, q as usize);
     let count = showing::count_in(memory, s, i, k, at);
-    let first = showing::start_in(memory, s, i, k, at);
-    let mut r = n;
     let mut c = 0;
     while c < count {
-        let b = showing::item_from(memory, s, i, k, at, first, c);
-        r = list_kept(memory, s, task, i, b, out, r);
+        let b = showing::item_in(memory, s, i, k, at, c);
+        if b != 0 {
+            let x = showing::shown_at(memory, s, task, 1, i, b);
+            list_letter(x, ranks, out);
+        }
         c += 1;
     }
-    r
 }
 
-// The letters of a task's queue, at the task's rank.
+// The letters of a task's queue; a task that is bound to none has none.
 fn list_task(memory: &[u32], s: Settings, task: u32, ranks: &mut [u32; 256], out: &mut [u32])
     requires { ⌜ Asked s (now memory) ⌝ }
     requires { ⌜ task < taskIds ⌝ }
     requires { ⌜ Low (now ranks) 255 ⌝ }
-    requires { ⌜ Room (keptOf s (now memory) task) (now ranks) (now out) ⌝ }
     ensures { λ _. ⌜ record { ranks = now (ranks .exit); out = now (out .exit) } ≡ placed (keptOf s (now (memory .entry)) task) (record { ranks = now (ranks .entry); out = now (out .entry) }) ⌝ }
 {
     let Seat::At(i, q) = tasks::seat_of(&memory[24..536], task) else {
         return;
     };
-    let t = task as usize;
-    let n = ranks[t];
-    let r = list_task_queue(memory, s, task, i, q, out, n as usize);
-    ranks[t] = r as u32;
+    list_task_queue(memory, s, task, i, q, ranks, out);
 }
 
-// The letters of the noted tasks' queues, each task's at its rank.
-fn list_tasks(
-    memory: &[u32],
-    s: Settings,
-    filled: &[u32; 256],
-    many: usize,
-    ranks: &mut [u32; 256],
-    out: &mut [u32],
-)
+// The letters of all tasks' queues, task by task.
+fn list_tasks(memory: &[u32], s: Settings, ranks: &mut [u32; 256], out: &mut [u32])
     requires { ⌜ Asked s (now memory) ⌝ }
-    requires { ⌜ Noted s (now memory) (now filled) many ⌝ }
     requires { ⌜ Low (now ranks) (taskIds * 255) ⌝ }
-    requires { ⌜ Room (keptBelow s (now memory) taskIds) (now ranks) (now out) ⌝ }
     ensures { λ _. ⌜ record { ranks = now (ranks .exit); out = now (out .exit) } ≡ placed (keptBelow s (now (memory .entry)) taskIds) (record { ranks = now (ranks .entry); out = now (out .entry) }) ⌝ }
 {
-    let mut c = 0;
-    while c < many {
-        let task = filled[c];
+    let mut task = 0;
+    while task < 256 {
         list_task(memory, s, task, ranks, out);
-        c += 1;
+        task += 1;
     }
 }
 
-// The letters that wait in node j's send queue for node i, first to last, each at its task's rank.
+// The letters that wait in node j's send queue for node i, first to last.
 fn list_send_queue(
     memory: &[u32],
     s: Settings,
@@ -155,7 +119,6 @@ fn list_send_queue(
     requires { ⌜ Asked s (now memory) ⌝ }
     requires { ⌜ (i < nodes) × (j < nodes) ⌝ }
     requires { ⌜ Low (now ranks) 255 ⌝ }
-    requires { ⌜ Room (sentFrom s (now memory) j (waiting s (now memory) i j)) (now ranks) (now out) ⌝ }
     ensures { λ _. ⌜ record { ranks = now (ranks .exit); out = now (out .exit) } ≡ placed (sentFrom s (now (memory .entry)) j (waiting s (now (memory .entry)) i j)) (record { ranks = now (ranks .entry); out = now (out .entry) }) ⌝ }
 {
     let k = queues::send_kind(s);
@@ -166,19 +129,16 @@ fn list_send_queue(
     while c < count {
         let b = showing::item_in(memory, s, j, k, at, c);
         let task = showing::word_in(memory, s, j, b, 2);
-        let t = task as usize;
-        let n = ranks[t];
-        ranks[t] = n + 1;
-        list_letter(memory, s, task, 2, j, b, out, n as usize);
+        let x = showing::shown_at(memory, s, task, 2, j, b);
+        list_letter(x, ranks, out);
         c += 1;
     }
 }
 
-// The letters that wait in all send queues, each at its task's rank: for node 0 in nodes 0 to 5, then for node 1, and so on.
+// The letters that wait in all send queues: for node 0 in nodes 0 to 5, then for node 1, and so on.
 fn list_nodes(memory: &[u32], s: Settings, ranks: &mut [u32; 256], out: &mut [u32])
     requires { ⌜ Asked s (now memory) ⌝ }
     requires { ⌜ Low (now ranks) (nodes * nodes * 255) ⌝ }
-    requires { ⌜ Room (sentBelow s (now memory) (nodes * nodes)) (now ranks) (now out) ⌝ }
     ensures { λ _. ⌜ record { ranks = now (ranks .exit); out = now (out .exit) } ≡ placed (sentBelow s (now (memory .entry)) (nodes * nodes)) (record { ranks = now (ranks .entry); out = now (out .entry) }) ⌝ }
 {
     let mut c = 0;
@@ -188,23 +148,46 @@ fn list_nodes(memory: &[u32], s: Settings, ranks: &mut [u32; 256], out: &mut [u3
     }
 }
 
-// List, of a sound memory: the letters of each task are counted, then each is laid at its place.
+// All letters, each at its task's rank: those of the tasks' queues, then those that wait.
+fn list_letters(memory: &[u32], s: Settings, ranks: &mut [u32; 256], out: &mut [u32])
+    requires { ⌜ Asked s (now memory) ⌝ }
+    requires { ⌜ Low (now ranks) ((taskIds + nodes * nodes) * 255) ⌝ }
+    ensures { λ _. ⌜ record { ranks = now (ranks .exit); out = now (out .exit) } ≡ placed (everyLetter s (now (memory .entry))) (record { ranks = now (ranks .entry); out = now (out .entry) }) ⌝ }
+{
+    list_tasks(memory, s, ranks, out);
+    list_nodes(memory, s, ranks, out);
+}
+
+// Turns each task's number of letters into its rank; answers how many letters there are.
+fn add_up(ranks: &mut [u32; 256]) -> u32
+    requires { ⌜ length (now ranks) ≡ taskIds ⌝ }
+    requires { ⌜ sum taskIds (numbers (now ranks)) ≤ 4294967295 ⌝ }
+    ensures { λ r. ⌜ Ranked (numbers (now (ranks .entry))) (now (ranks .exit)) r ⌝ }
+{
+    let mut n = 0;
+    let mut t = 0;
+    while t < 256 {
+        let letters = ranks[t];
+        ranks[t] = n;
+        n += letters;
+        t += 1;
+    }
+    n
+}
+
+// List, of a sound memory: a walk with no room lays nothing and counts each task's letters; the same walk then lays each at its place.
 fn list_sound(memory: &[u32], out: &mut [u32]) -> Listed
     requires { ⌜ sound (now memory) ≡ true ⌝ }
     ensures { λ r. ⌜ record { answer = r; out = now (out .exit) } ≡ list (now (memory .entry)) (now (out .entry)) ⌝ }
 {
     let s = sound::settings_in(memory);
-    let mut filled = [0u32; 256];
     let mut ranks = [0u32; 256];
-    let many = counting::note_filled(memory, s, &mut filled);
-    counting::count_tasks(memory, s, &filled, many, &mut ranks);
-    counting::count_nodes(memory, s, &mut ranks);
-    let letters = counting::add_up(&mut ranks);
+    list_letters(memory, s, &mut ranks, &mut out[0..0]);
+    let letters = add_up(&mut ranks);
     if out.len() < letters as usize * 6 {
         return Listed::OutTooShort(letters);
     }
-    list_tasks(memory, s, &filled, many, &mut ranks, out);
-    list_nodes(memory, s, &mut ranks, out);
+    list_letters(memory, s, &mut ranks, out);
     Listed::Done(letters)
 }
 

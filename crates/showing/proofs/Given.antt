@@ -22,7 +22,7 @@ pub node-part : (s : Settings) (memory : List ℕ) (i a size : ℕ) → a ≡ no
 node-part s memory i a size ea es = ap₂ (λ (k z : ℕ). part memory k (k + z)) ea es
 
 -- node i's stretch of a memory that is as long as the settings say
-pub sized-stretch : (s : Settings) (memory : List ℕ) → Sized s memory → (i : ℕ) → i < nodes → Stretch s (node s memory i)
+sized-stretch : (s : Settings) (memory : List ℕ) → Sized s memory → (i : ℕ) → i < nodes → Stretch s (node s memory i)
 sized-stretch s memory z i h =
     record {
       range = z .range;
@@ -37,7 +37,7 @@ module _ (s : Settings) (memory : List ℕ) (i b : ℕ) (g : Begins s memory i b
   st : Stretch s w
   st = sized-stretch s memory (g .sized) i (g .there)
 
-  pub begins-least : headerWords ≤ toldLength s w b
+  begins-least : headerWords ≤ toldLength s w b
   begins-least = right-least s w st b (g .ends) (g .long)
 
   pub begins-lies : (k : ℕ) → k < headerWords → Lies s w (k + 1) b
@@ -46,7 +46,7 @@ module _ (s : Settings) (memory : List ℕ) (i b : ℕ) (g : Begins s memory i b
   pub begins-word : (k : ℕ) → k < headerWords → word s w b k ≡ wordIn s memory i b k
   begins-word k h = right-word s w st b (g .ends) (g .long) k (omega (arith, begins-least))
 
-  pub begins-told : wordIn s memory i b lengthWord ≡ toldLength s w b
+  begins-told : wordIn s memory i b lengthWord ≡ toldLength s w b
   begins-told = sym (begins-word lengthWord (omega arith)) ∙ right-told s w st b (g .ends) (g .long)
 
   -- what the list shows of it

@@ -3,12 +3,12 @@ use queues::Kind;
 use settings::Settings;
 ghost use mathlib.Core.Path.{_≡_};
 ghost use mathlib.Core.Bool.{cond};
-ghost use Prim.Native.Nat.{_*_, _+_, _≤_, _<_};
-ghost use lib.ListN.{length, getD};
-ghost use Rattle.layout.specs.Places.{nodes, nodesAt, gapWord, nodeSize, node};
+ghost use Prim.Native.Nat.{_≤_, _<_};
+ghost use lib.ListN.{length};
+ghost use Rattle.layout.specs.Places.{nodes, nodesAt, node};
 ghost use Rattle.layout.specs.Numbers.{headerWords};
 ghost use Rattle.layout.specs.Asked.{Sized};
-ghost use Rattle.queues.specs.Queue.{Queue, start, items, itemAt};
+ghost use Rattle.queues.specs.Queue.{Queue, items, itemAt};
 ghost use Rattle.showing.specs.List.{wordIn, shown, handedOver};
 ghost use Rattle.showing.specs.Asked.{Begins};
 
@@ -22,15 +22,7 @@ pub struct Shown {
     pub body: u32,
 }
 
-// The word at a place of a part of the memory.
-fn word_at(part: &[u32], at: usize) -> u32
-    requires { ⌜ at < length (now part) ⌝ }
-    ensures { λ r. ⌜ r ≡ getD (now (part .entry)) at 0 ⌝ }
-{
-    part[at]
-}
-
-// Word k of the header of the letter that block b begins in node i: mostly the first block carries it, which is found from where a block 0 would begin.
+// Word k of the header of the letter that block b begins in node i.
 pub fn word_in(memory: &[u32], s: Settings, i: u32, b: u32, k: usize) -> u32
     requires { ⌜ Begins s (now memory) i b ⌝ }
     requires { ⌜ k < headerWords ⌝ }
@@ -38,11 +30,6 @@ pub fn word_in(memory: &[u32], s: Settings, i: u32, b: u32, k: usize) -> u32
 {
     let a = layout::node_at(s, i as usize);
     let e = a + layout::node_size(s);
-    if k < s.b - 1 {
-        let zero = a + (layout::block_at(s, 1) - s.b);
-        let at = b as usize * s.b + k;
-        return word_at(&memory[zero..e], at);
-    }
     letters::word_of(&memory[a..e], s, b, k)
 }
 
@@ -58,26 +45,6 @@ pub fn count_in(memory: &[u32], s: Settings, i: u32, k: Kind, q: usize) -> usize
     queues::items_of(&memory[a..e], k, q)
 }
 
-// The gap flag of the task queue at word q of a node's stretch.
-fn flag_of(node: &[u32], q: usize) -> u32
-    requires { ⌜ q + gapWord < length (now node) ⌝ }
-    ensures { λ r. ⌜ r ≡ getD (now (node .entry)) (q + gapWord) 0 ⌝ }
-{
-    node[q + 2]
-}
-
-// The gap flag of the task queue at word q of node i.
-pub fn flag_in(memory: &[u32], s: Settings, i: u32, q: usize) -> u32
-    requires { ⌜ Sized s (now memory) ⌝ }
-    requires { ⌜ i < nodes ⌝ }
-    requires { ⌜ q + gapWord < nodeSize s ⌝ }
-    ensures { λ r. ⌜ r ≡ getD (node s (now (memory .entry)) i) (q + gapWord) 0 ⌝ }
-{
-    let a = layout::node_at(s, i as usize);
-    let e = a + layout::node_size(s);
-    flag_of(&memory[a..e], q)
-}
-
 // The item at place c of the queue at word q of node i.
 pub fn item_in(memory: &[u32], s: Settings, i: u32, k: Kind, q: usize, c: usize) -> u32
     requires { ⌜ Sized s (now memory) ⌝ }
@@ -89,41 +56,6 @@ pub fn item_in(memory: &[u32], s: Settings, i: u32, k: Kind, q: usize, c: usize)
     let a = layout::node_at(s, i as usize);
     let e = a + layout::node_size(s);
     queues::item(&memory[a..e], k, q, c)
-}
-
-// The slot that the queue at word q of node i starts with.
-pub fn start_in(memory: &[u32], s: Settings, i: u32, k: Kind, q: usize) -> usize
-    requires { ⌜ Sized s (now memory) ⌝ }
-    requires { ⌜ i < nodes ⌝ }
-    requires { ⌜ Queue k (node s (now memory) i) q ⌝ }
-    ensures { λ r. ⌜ r ≡ start k (node s (now (memory .entry)) i) q ⌝ }
-{
-    let a = layout::node_at(s, i as usize);
-    let e = a + layout::node_size(s);
-    word_at(&memory[a..e], q) as usize
-}
-
-// The item at place c of the queue at word q of node i, which starts with slot `first`.
-pub fn item_from(
-    memory: &[u32],
-    s: Settings,
-    i: u32,
-    k: Kind,
-    q: usize,
-    first: usize,
-    c: usize,
-) -> u32
-    requires { ⌜ Sized s (now memory) ⌝ }
-    requires { ⌜ i < nodes ⌝ }
-    requires { ⌜ Queue k (node s (now memory) i) q ⌝ }
-    requires { ⌜ first ≡ start k (node s (now memory) i) q ⌝ }
-    requires { ⌜ c < k .slots ⌝ }
-    ensures { λ r. ⌜ r ≡ itemAt k (node s (now (memory .entry)) i) q c ⌝ }
-{
-    let a = layout::node_at(s, i as usize);
-    let e = a + layout::node_size(s);
-    let at = queues::slot_at(k, q, first, c);
-    word_at(&memory[a..e], at)
 }
 
 // What the list shows of the letter that block b begins in node i, at a place, for a task.

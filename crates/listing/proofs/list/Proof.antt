@@ -1,7 +1,7 @@
 -- `listing::list` meets its contract: the memory is tested, then its letters are listed. Assumes nothing.
 use mathlib.Core.Path.{sym, _∙_}
 use borrow.Author.Tests.{not-true, not-false}
-use Rattle.listing.proofs.Refused.{not-sound}
+use Rattle.listing.proofs.Outcomes.{not-sound}
 use borrow.Author.Needs.{needs}
 use Rattle.listing.proofs.list.Statement.{statement}
 use Rattle.listing.proofs.list.Tie as tie

@@ -3,11 +3,10 @@ use mathlib.Core.Path.{_≡_}
 use Prim.Native.Nat.{_-_, _≤_}
 use native.Mathlib.Nat.{mod-lt, div-lt-iff-lt-mul}
 use native.Mathlib.Omega.{arith}
-use Rattle.counting.specs.Asked.{placed, sentBelow}
-use Rattle.counting.proofs.Few.{few-sent}
-use Rattle.counting.proofs.Letters.{queues-start, queues-more}
-use Rattle.counting.proofs.Placing.{rows, so-low, so-long}
-use Rattle.listing.proofs.Rooms.{room-queue}
+use Rattle.listing.specs.Asked.{placed, sentBelow}
+use Rattle.listing.proofs.Few.{few-sent}
+use Rattle.listing.proofs.Letters.{queues-start, queues-more}
+use Rattle.listing.proofs.Placing.{rows, so-low, so-long}
 use borrow.Author.Needs.{needs}
 use Rattle.listing.proofs.list_nodes.Statement.{statement}
 use Rattle.listing.proofs.list_nodes.Tie as tie
@@ -24,8 +23,13 @@ loop-holds c = let x = c .before .before .args in (omega arith, queues-start (x 
 list-send-queue-requires : tie.Need-list-send-queue-requires Inv-loop μ-loop
 list-send-queue-requires c κs =
     let l = c .before .before .before .loop in
-    let x = c .before .before .before .before .before .before in
-    (x .pre .0, ((div-lt-iff-lt-mul {k = 6} {x = l .c} {y = 6} (omega arith) .1 (omega arith), mod-lt (l .c) {m = 6} (omega arith)), (so-low (sentBelow (x .args .s) (x .args .memory .now) (l .c)) (x .args .ranks .now) (x .args .out .now) (l .ranks) (l .out) (l .inv .1) _ _ (x .pre .1 .0) (omega (arith, few-sent (x .args .s) (x .args .memory .now) (x .pre .0) (l .c) (l .inv .0))), room-queue (x .args .s) (x .args .memory .now) 36 (l .c) (omega arith) (x .args .ranks .now) (x .args .out .now) (l .ranks) (l .out) (l .inv .1) (x .pre .1 .0 .long) (x .pre .1 .1))))
+    let x = c .before .before .before .before .before .before in (
+      x .pre .0,
+      (
+        (div-lt-iff-lt-mul {k = 6} {x = l .c} {y = 6} (omega arith) .1 (omega arith), mod-lt (l .c) {m = 6} (omega arith)),
+        so-low (sentBelow (x .args .s) (x .args .memory .now) (l .c)) (x .args .ranks .now) (x .args .out .now) (l .ranks) (l .out) (l .inv .1) _ _ (x .pre .1) (omega (arith, few-sent (x .args .s) (x .args .memory .now) (x .pre .0) (l .c) (l .inv .0))),
+      ),
+    )
 
 loop-again : tie.Need-loop-again Inv-loop μ-loop
 loop-again c =
@@ -34,7 +38,7 @@ loop-again c =
     (omega arith, queues-more (x .s) (x .memory .now) (rows (x .ranks .now) (x .out .now)) (rows (l .ranks) (l .out)) _ (l .c) (l .inv .1) (c .before .before .list-send-queue .ensures))
 
 same-length : tie.Need-same-length Inv-loop μ-loop
-same-length c = let l = c .before .loop in let x = c .before .before .before .before .args in so-long (sentBelow (x .s) (x .memory .now) (l .c)) (x .ranks .now) (x .out .now) (l .ranks) (l .out) (l .inv .1)
+same-length c = let l = c .before .loop in let x = c .before .before .before .before .args in so-long _ (x .ranks .now) (x .out .now) (l .ranks) (l .out) (l .inv .1)
 
 returns : tie.Need-returns Inv-loop μ-loop
 returns c =

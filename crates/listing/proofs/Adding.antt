@@ -1,31 +1,19 @@
 -- The tasks' numbers of letters added up, one task after the other. Assumes nothing.
 use mathlib.Core.Path.{_≡_, refl, ap, ap₂, _∙_}
 use mathlib.Core.List.{List}
-use mathlib.Core.Logic.{⊎-elim}
-use Prim.Native.Nat.{ℕ, zero, suc, _+_, _≤_, _<_}
+use Prim.Native.Nat.{ℕ, suc, _+_, _≤_, _<_}
 use native.Mathlib.Numerals.{add-one}
 use native.Mathlib.Omega.{arith}
 use lib.ListN.{length, getD, set, length-set}
 use lib.Seq.{getD-set-same, getD-set-other}
 use Rattle.words.specs.Count.{sum}
-use Rattle.words.proofs.Lists.{same?, le-or-lt}
+use Rattle.words.proofs.Lists.{same?}
 use Rattle.layout.specs.Places.{taskIds}
-use Rattle.counting.specs.Asked.{Ranked}
-
-lower : (t n : ℕ) → t < n + 1 → (t ≡ n → ⊥) → t < n
-lower t n h q = ⊎-elim (λ l. absurd (q (omega arith))) (λ l. l) (le-or-lt n t)
+use Rattle.listing.specs.Asked.{Ranked}
+use Rattle.listing.proofs.Orders.{below, climbs}
 
 module _ (letters : ℕ → ℕ) where
-  pub sum-most : (m n : ℕ) → m ≤ n → sum m letters ≤ sum n letters
-  unfolding sum
-  sum-most m zero h = let e : m ≡ 0 = omega arith in rw e (omega arith)
-  sum-most m (suc n) h =
-      ⊎-elim
-      (λ g. let e : m ≡ suc n = omega arith in rw e (omega arith))
-      (λ g. omega (arith, sum-most m n (omega arith)))
-      (le-or-lt (suc n) m)
-
-  pub sum-suc : (n : ℕ) → sum (suc n) letters ≡ sum n letters + letters n
+  sum-suc : (n : ℕ) → sum (suc n) letters ≡ sum n letters + letters n
   unfolding sum
   sum-suc n = refl
 
@@ -57,11 +45,11 @@ module _ (letters : ℕ → ℕ) where
         done t g =
             same? t task
             (λ q z. rw q (getD-set-same ranks task n 0 (omega (arith, a .long)) ∙ a .total))
-            (λ q z. getD-set-other ranks task t n 0 q ∙ a .done t (lower t task g q))
+            (λ q z. getD-set-other ranks task t n 0 q ∙ a .done t (below t task (omega arith) q))
 
     -- the number of letters so far, with the next task's, is no more than that of all
     pub adding-few : task < taskIds → n + letters task ≤ sum taskIds letters
-    adding-few h = omega (arith, a .total, sum-suc task, sum-most (suc task) taskIds (omega arith))
+    adding-few h = omega (arith, a .total, sum-suc task, climbs (λ n. sum n letters) (λ n. omega (arith, sum-suc n)) (suc task) taskIds (omega arith))
 
     pub adding-all : task ≡ taskIds → Ranked letters ranks n
     adding-all e = record { long = a .long; each = λ t h. a .done t (omega arith); all = a .total ∙ ap (λ (k : ℕ). sum k letters) e }

@@ -1,6 +1,6 @@
--- What a sound memory gives to the functions that count letters and lay them. Assumes nothing.
+-- What a sound memory gives to the functions that walk its letters. Assumes nothing.
 use mathlib.Core.Path.{_≡_, sym, ap, ap₂, _∙_}
-use mathlib.Core.Bool.{true, false}
+use mathlib.Core.Bool.{true}
 use mathlib.Core.List.{List}
 use Prim.Native.Nat.{ℕ, _+_, _-_, _≤_, _<_}
 use native.Mathlib.Omega.{arith}
@@ -9,28 +9,27 @@ use lib.ListN.{length, getD}
 use borrow.Author.Tests.{eqb-true, ltb-true}
 use Rattle.words.proofs.Lists.{and-true}
 use Rattle.settings.specs.declared.Settings.{Settings}
-use Rattle.layout.specs.Places.{nodes, taskIds, taskQueues, nodesAt, sendAt, taskAt, itemsWord, gapWord, node}
+use Rattle.layout.specs.Places.{nodes, taskIds, taskQueues, nodesAt, sendAt, taskAt, itemsWord, node}
 use Rattle.layout.specs.Numbers.{sourceTaskWord, sourceNodeWord, destinationTaskWord, destinationNodeWord}
 use Rattle.layout.specs.Asked.{Sized}
 use Rattle.layout.proofs.Fits.{nodes-fit}
 use Rattle.layout.proofs.NodeRows.{by-send}
-use Rattle.tasks.specs.Table.{holdsNone, nodeOf, isBound, rightTable}
+use Rattle.tasks.specs.Table.{nodeOf, isBound, rightTable}
 use Rattle.tasks.proofs.Laws.{told-at, seat-below}
 use Rattle.tasks.specs.Seat.{seatOf}
 use Rattle.tasks.specs.declared.Seat.the-variants.{At}
 use Rattle.queues.specs.declared.Kind.{Kind}
 use Rattle.queues.specs.Queue.{sendKind, taskKind, items, itemAt, Queue}
-use Rattle.queues.specs.Items.{live, gapFlag}
-use Rattle.queues.proofs.Items.{live-all}
 use Rattle.queues.proofs.Views.{length-contents, contents-item}
 use Rattle.sound.specs.Reading.{settingsIn, tableIn, sendItems, taskItems}
 use Rattle.sound.specs.Queues.{taskOf}
 use Rattle.sound.specs.Letters.{wordsFrom, rightHeader, fromTo, rightPlace}
 use Rattle.sound.proofs.Gives.{gives-table, gives-sized, gives-send, gives-task}
 use Rattle.sound.proofs.Held.{Right, send-right, task-right}
-use Rattle.showing.specs.List.{wordIn}
+use Rattle.showing.specs.declared.Shown.{Shown}
+use Rattle.showing.specs.List.{wordIn, shown}
 use Rattle.showing.specs.Asked.{Begins}
-use Rattle.counting.specs.Asked.{Asked}
+use Rattle.listing.specs.Asked.{Asked}
 
 -- ---- a task that is bound on node k
 pub record Named (table : List ℕ) (k d : ℕ) : Type 0 where
@@ -58,10 +57,10 @@ pub named-id : (table : List ℕ) (k d : ℕ) → Named table k d → d < taskId
 unfolding isBound
 named-id table k d n = ltb-true d taskIds (and-true (ltb d taskIds) _ (n .bound) .0)
 
--- ---- 'task 0 unbound'
-pub first-unbound : (t : List ℕ) → rightTable t ≡ true → isBound t 0 ≡ false
-unfolding rightTable isBound
-first-unbound t r = rw (and-true (holdsNone t 0) _ (and-true (eqb (length t) 512) _ r .1) .0)
+-- a letter that is shown for a task is for it
+pub shown-for : (s : Settings) (memory : List ℕ) (task place i b : ℕ) (x : Shown) → x ≡ shown s memory task place i b → task < taskIds → x .destination < taskIds
+unfolding shown
+shown-for s memory task place i b x e h = rw e h
 
 -- a task that the answer seats sits on a node and a queue
 pub told-seat : (t : List ℕ) → rightTable t ≡ true → (id i q : ℕ) → seatOf t id ≡ At i q → (i < nodes) × (q < taskQueues)
@@ -85,13 +84,9 @@ module _ (s : Settings) (memory : List ℕ) (a : Asked s memory) where
     pub asked-task : (q : ℕ) → q < taskQueues → Queue (taskKind s) (node s memory i) (taskAt s q)
     asked-task q g = rw (a .is) (gives-task memory (a .holds) i h q g .queue)
 
-    -- 'the gap flag is 1 exactly when an item is 0, otherwise 0'
-    pub asked-flag : (q : ℕ) → q < taskQueues → getD (node s memory i) (taskAt s q + gapWord) 0 ≡ gapFlag (taskItems s memory i q)
-    asked-flag q g = rw (a .is) (gives-task memory (a .holds) i h q g .flag)
-
     -- each item of a send queue begins a letter
     module _ (k : ℕ) (g : k < nodes) (c : ℕ) (l : c < items (sendKind s) (node s memory i) (sendAt s k)) where
-      pub asked-sent : Begins s memory i (itemAt (sendKind s) (node s memory i) (sendAt s k) c)
+      asked-sent : Begins s memory i (itemAt (sendKind s) (node s memory i) (sendAt s k) c)
       asked-sent =
           let u = asked-send k g in
           let e = contents-item (sendKind s) (node s memory i) (sendAt s k) u c (omega (arith, u .count)) in
@@ -115,7 +110,7 @@ module _ (s : Settings) (memory : List ℕ) (a : Asked s memory) where
 
     -- and so does each item of a task queue that is not 0
     module _ (q : ℕ) (g : q < taskQueues) (c : ℕ) (l : c < items (taskKind s) (node s memory i) (taskAt s q)) where
-      pub asked-kept : (itemAt (taskKind s) (node s memory i) (taskAt s q) c ≡ 0 → ⊥) → Begins s memory i (itemAt (taskKind s) (node s memory i) (taskAt s q) c)
+      asked-kept : (itemAt (taskKind s) (node s memory i) (taskAt s q) c ≡ 0 → ⊥) → Begins s memory i (itemAt (taskKind s) (node s memory i) (taskAt s q) c)
       asked-kept n =
           let u = asked-task q g in
           let e = contents-item (taskKind s) (node s memory i) (taskAt s q) u c (omega (arith, u .count)) in
@@ -174,13 +169,6 @@ module _ (s : Settings) (memory : List ℕ) (a : Asked s memory) (i : ℕ) (h : 
     kept-begins r c b l e n =
         let f = read-item r c b e in
         rw f (asked-kept s memory a i h q g c (omega (arith, r .many)) (λ z. n (f ∙ z)))
-
-    -- where the gap flag is 0, each item begins a letter
-    pub kept-whole : Read s memory i (taskKind s) (taskAt s q) k at count → (flag : ℕ) → flag ≡ getD stretch (at + gapWord) 0 → flag ≡ 0 → count ≡ length (live (taskItems s memory i q))
-    kept-whole r flag e z =
-        let u = asked-task s memory a i h q g in
-        let f : gapFlag (taskItems s memory i q) ≡ 0 = sym (asked-flag s memory a i h q g) ∙ ap (λ (x : ℕ). getD stretch (x + gapWord) 0) (sym (r .stands)) ∙ sym e ∙ z in
-        r .many ∙ sym (length-contents (taskKind s) stretch (taskAt s q) u) ∙ ap length (sym (live-all (taskItems s memory i q) f))
 
   module _ (j : ℕ) (g : j < nodes) {k : Kind} {at count : ℕ} (r : Read s memory i (sendKind s) (sendAt s j) k at count) where
     pub sent-begins : (c b : ℕ) → c < count → b ≡ itemAt k stretch at c → Begins s memory i b

@@ -1,12 +1,12 @@
--- `counting::add_up` meets its contract: after each turn the tasks below t have their ranks. Assumes nothing.
+-- `listing::add_up` meets its contract: after each turn the tasks below t have their ranks. Assumes nothing.
 use mathlib.Core.Path.{_≡_}
 use Prim.Native.Nat.{_-_}
 use native.Mathlib.Omega.{arith}
-use Rattle.counting.specs.Asked.{numbers}
-use Rattle.counting.proofs.Adding.{Adding, adding-none, adding-more, adding-few, adding-all}
+use Rattle.listing.specs.Asked.{numbers}
+use Rattle.listing.proofs.Adding.{Adding, adding-none, adding-more, adding-few, adding-all}
 use borrow.Author.Needs.{needs}
-use Rattle.counting.proofs.add_up.Statement.{statement}
-use Rattle.counting.proofs.add_up.Tie as tie
+use Rattle.listing.proofs.add_up.Statement.{statement}
+use Rattle.listing.proofs.add_up.Tie as tie
 
 abbrev Inv-loop : tie.InvT-loop
 Inv-loop ranks₀ n₀ t₀ ranks n t = Adding (numbers ranks₀) ranks₀ ranks n t
