@@ -2,8 +2,8 @@
 use mathlib.Core.Path.{_≡_, sym, ap, _∙_}
 use mathlib.Core.Bool.{true, false}
 use mathlib.Core.List.{List}
-use Prim.Native.Nat.{ℕ, suc, _+_, _-_, _*_, _/_, _%_, _≤_, _<_}
-use native.Mathlib.Nat.{suc-mul, mul-le-mul-right, div-add-mod'}
+use Prim.Native.Nat.{ℕ, suc, _+_, _-_, _*_, _/_, _≤_, _<_}
+use native.Mathlib.Nat.{suc-mul, mul-le-mul, div-lt-iff-lt-mul}
 use native.Mathlib.Omega.{arith}
 use lib.Dec.{eqb, leb}
 use lib.ListN.{length, getD, List·getD-eq-default}
@@ -13,10 +13,10 @@ use Rattle.settings.specs.declared.Settings.{Settings}
 use Rattle.layout.specs.Asked.{Stretch}
 use Rattle.blocks.specs.Chain.{needs, chain, text, Within}
 use Rattle.blocks.proofs.Chains.{length-text}
+use Rattle.blocks.proofs.Moves.{length-list}
 use Rattle.blocks.proofs.Rows.{rows, within-in, text-rows, block-long}
 use Rattle.letters.specs.Letter.{word, letter}
 use Rattle.letters.specs.Asked.{Lies}
-use Rattle.letters.proofs.Rows.{needs-enough}
 use Rattle.letters.proofs.Laws.{word-text}
 use Rattle.sound.proofs.Gives.{all-within}
 use Rattle.sound.proofs.Right.{list-chain, chain-front, right-least, right-most, right-needs, right-chain, right-lies, right-letter, right-word}
@@ -39,23 +39,35 @@ module _ (s : Settings) (l : List ℕ) (b n : ℕ) (w : Whole s l b n) where
   whole : chain s l n b ≡ chainFrom s l b
   whole = ap (λ (k : ℕ). chain s l k b) (w .count) ∙ sym (list-chain s l (s .m) b)
 
-  -- too few blocks for a header: the length that is told is 0
-  pub told-short : n < needs s 5 → false ≡ rightLength s l b
-  unfolding rightLength needs
-  told-short h =
-      let r = w .stretch .range .b .low in
+  pub carried-small : n * (s .b - 1) ≤ 65536
+  carried-small =
       let c = w .count in
-      let d : ℕ = s .b - 1 in
-      let f : (5 + (s .b - 2)) / d * d + (5 + (s .b - 2)) % d ≡ 5 + (s .b - 2) = div-add-mod' (5 + (s .b - 2)) d in
-      let g : suc n * d ≤ (5 + (s .b - 2)) / d * d = mul-le-mul-right d h in
+      let r = w .stretch .range in
+      let k : n ≤ 1024 = omega (arith, c, length-list s l (s .m) b, r .m .high) in
+      let j : s .b - 1 ≤ 64 = omega (arith, r .b .high) in
+      omega (arith, mul-le-mul k j)
+
+  -- too few words for a header: the length that is told is 0
+  pub told-short : n * (s .b - 1) < 5 → false ≡ rightLength s l b
+  unfolding rightLength
+  told-short h =
       let z : length (text s l (chainFrom s l b)) ≤ 4 =
-      omega (arith, length-words s l (w .stretch) (chainFrom s l b) (ends-within s l b (w .ends)), suc-mul n d, ap (λ (k : ℕ). k * d) c) in
+      omega (arith, length-words s l (w .stretch) (chainFrom s l b) (ends-within s l b (w .ends)), ap (λ (k : ℕ). k * (s .b - 1)) (w .count)) in
       rw (List·getD-eq-default (text s l (chainFrom s l b)) 0 z)
 
-  module _ (h : needs s 5 ≤ n) where
+  module _ (h : 5 ≤ n * (s .b - 1)) where
+    enough-blocks : needs s 5 ≤ n
+    unfolding needs
+    enough-blocks =
+        let r = w .stretch .range .b .low in
+        let e : 5 + (s .b - 2) < suc n * (s .b - 1) = omega (arith, suc-mul n (s .b - 1)) in
+        let f : (5 + (s .b - 2)) / (s .b - 1) < suc n = div-lt-iff-lt-mul {k = s .b - 1} {x = 5 + (s .b - 2)} {y = suc n} (omega arith) .1 e in
+        omega arith
+
     pub head-lies : Lies s l 5 b
     head-lies =
         let c = w .count in
+        let g = enough-blocks in
         record {
           walks = record { stretch = w .stretch; within = chain-front s l (s .m) (needs s 5) (length (chainFrom s l b)) b (omega arith) (rw (← list-chain s l (s .m) b) (ends-within s l b (w .ends))) };
           most = omega arith;
@@ -63,8 +75,6 @@ module _ (s : Settings) (l : List ℕ) (b n : ℕ) (w : Whole s l b n) where
 
     pub told-is : word s l b 4 ≡ toldLength s l b
     told-is =
-        let g = needs-enough s (w .stretch .range) 5 in
-        let k : needs s 5 * (s .b - 1) ≤ n * (s .b - 1) = mul-le-mul-right (s .b - 1) h in
         word-text s l (w .stretch) n b 4 (rw whole (ends-within s l b (w .ends))) (omega arith)
         ∙ ap (λ (c : List ℕ). getD (text s l c) 4 0) whole
 

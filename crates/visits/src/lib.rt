@@ -81,12 +81,13 @@ pub fn visit(node: &[u32], s: Settings, marks: &mut [u8; 1025], b: u32) -> Walk
     Walk::Ended(left - 1)
 }
 
-// Whether the letter that block b begins has a valid length and the blocks it needs; it has `count`.
+// Whether the letter that block b begins has a valid length and the blocks it needs; it has `count`. A chain that carries fewer words than a
+// header tells no length.
 fn is_right_length(node: &[u32], s: Settings, b: u32, count: usize) -> bool
     requires { ⌜ Whole s (now node) b count ⌝ }
     ensures { λ r. ⌜ r ≡ rightLength s (now (node .entry)) b ⌝ }
 {
-    if count < blocks::needs_of(s, 5) {
+    if count * (s.b - 1) < 5 {
         return false;
     }
     let n = letters::told_length(node, s, b) as usize;
