@@ -5,50 +5,50 @@ use Rattle.answers.specs.declared.Answer.{Answer}
 abbrev pub done : ℕ
 done = 0
 
-abbrev pub notSound : ℕ
-notSound = 1
+abbrev pub not_sound : ℕ
+not_sound = 1
 
-abbrev pub firstNotBound : ℕ
-firstNotBound = 2
+abbrev pub first_not_bound : ℕ
+first_not_bound = 2
 
-abbrev pub otherNotBound : ℕ
-otherNotBound = 3
+abbrev pub other_not_bound : ℕ
+other_not_bound = 3
 
-abbrev pub bodyTooLong : ℕ
-bodyTooLong = 4
+abbrev pub body_too_long : ℕ
+body_too_long = 4
 
-abbrev pub tooFewBlocks : ℕ
-tooFewBlocks = 5
+abbrev pub too_few_blocks : ℕ
+too_few_blocks = 5
 
-abbrev pub queueFull : ℕ
-queueFull = 6
+abbrev pub queue_full : ℕ
+queue_full = 6
 
-abbrev pub noSuchLetter : ℕ
-noSuchLetter = 7
+abbrev pub no_such_letter : ℕ
+no_such_letter = 7
 
-abbrev pub noSuchLetterQueueFull : ℕ
-noSuchLetterQueueFull = 8
+abbrev pub no_such_letter_queue_full : ℕ
+no_such_letter_queue_full = 8
 
-abbrev pub outShorterThanBody : ℕ
-outShorterThanBody = 9
+abbrev pub out_shorter_than_body : ℕ
+out_shorter_than_body = 9
 
-abbrev pub acknowledgeQueueFull : ℕ
-acknowledgeQueueFull = 10
+abbrev pub acknowledge_queue_full : ℕ
+acknowledge_queue_full = 10
 
-abbrev pub outShorterThanList : ℕ
-outShorterThanList = 11
+abbrev pub out_shorter_than_list : ℕ
+out_shorter_than_list = 11
 
-abbrev pub unknownRecord : ℕ
-unknownRecord = 12
+abbrev pub unknown_record : ℕ
+unknown_record = 12
 
-abbrev pub settingOutOfRange : ℕ
-settingOutOfRange = 13
+abbrev pub setting_out_of_range : ℕ
+setting_out_of_range = 13
 
-abbrev pub wrongTable : ℕ
-wrongTable = 14
+abbrev pub wrong_table : ℕ
+wrong_table = 14
 
-abbrev pub otherSize : ℕ
-otherSize = 15
+abbrev pub other_size : ℕ
+other_size = 15
 
 -- 'Other refusals answer zeroes': the number alone
 abbrev pub bare : ℕ → Answer

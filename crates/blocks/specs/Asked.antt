@@ -1,7 +1,7 @@
 -- What a sound memory gives, and the functions on chains and on the free list ask for.
 use Rattle.std.specs.Prelude.{◌≡◌, List, ℕ, ◌-◌, ◌≤◌, length, get_or}
 use Rattle.settings.specs.declared.Settings.{Settings}
-use Rattle.layout.specs.Places.{firstFreeAt, block_at}
+use Rattle.layout.specs.Places.{first_free_at, block_at}
 use Rattle.layout.specs.Asked.{Stretch}
 use Rattle.blocks.specs.Chain.{chain, after, list, free, Within, Once}
 
@@ -33,7 +33,7 @@ pub record Reaches (s : Settings) (node : List ℕ) (n b : ℕ) : Type 0 where
 pub record FreeList (s : Settings) (node : List ℕ) : Type 0 where
   pub within : Within s.m (free s node)
   pub once : Once (free s node)
-  pub ends : after s node (length (free s node)) (get_or node firstFreeAt 0) ≡ 0
+  pub ends : after s node (length (free s node)) (get_or node first_free_at 0) ≡ 0
 
 -- n blocks, one at least and no more than a node has, may be asked of the free list
 pub record Takes (s : Settings) (node : List ℕ) (n : ℕ) : Type 0 where

@@ -3,7 +3,7 @@ use Rattle.std.specs.Prelude.{◌≡◌, cond, List, [], ◌∷◌, ◌++◌, �
 use Rattle.words.specs.Words.{part}
 use Rattle.words.specs.Count.{occurs}
 use Rattle.settings.specs.declared.Settings.{Settings}
-use Rattle.layout.specs.Places.{firstFreeAt, block_at, linkAt}
+use Rattle.layout.specs.Places.{first_free_at, block_at, link_at}
 
 -- 'Blocks needed: length divided by B-1, rounded up'
 unfoldable pub needs : Settings → ℕ → ℕ
@@ -12,7 +12,7 @@ needs s n = (n + (s.b - 2)) / (s.b - 1)
 module _ (s : Settings) (node : List ℕ) where
   -- the block that follows b; 0 means none
   abbrev pub link : ℕ → ℕ
-  link b = get_or node (linkAt s b) 0
+  link b = get_or node (link_at s b) 0
 
   -- the n blocks from b on, along the links
   unfoldable pub chain : ℕ → ℕ → List ℕ
@@ -31,12 +31,12 @@ module _ (s : Settings) (node : List ℕ) where
 
   -- the free list
   abbrev pub free : List ℕ
-  free = list s.m (get_or node firstFreeAt 0)
+  free = list s.m (get_or node first_free_at 0)
 
   -- 'Each block carries B-1 words and then its link': the words of the blocks, links left out, as if they stood together
   unfoldable pub text : List ℕ → List ℕ
   text [] = []
-  text (b ∷ l) = part node (block_at s b) (linkAt s b) ++ text l
+  text (b ∷ l) = part node (block_at s b) (link_at s b) ++ text l
 
 -- each number of the list is that of a block, 1 to M
 unfoldable pub Within : ℕ → List ℕ → Type 0

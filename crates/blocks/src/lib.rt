@@ -2,10 +2,10 @@
 ghost use Rattle.std.specs.Prelude.{◌≡◌, ◌-◌, ◌≤◌, get_or, set};
 ghost use Rattle.settings.specs.declared.Settings.{Settings};
 ghost use Rattle.settings.specs.Range.{InRange};
-ghost use Rattle.layout.specs.Places.{linkAt};
+ghost use Rattle.layout.specs.Places.{link_at};
 ghost use Rattle.blocks.specs.Chain.{needs, link, after, list};
 ghost use Rattle.blocks.specs.Asked.{Block, Walks, Follows, Reaches, Takes};
-ghost use Rattle.blocks.specs.Moves.{taken, takenAnswer, givenBack};
+ghost use Rattle.blocks.specs.Moves.{taken, taken_answer, given_back};
 
 use settings::Settings;
 
@@ -30,7 +30,7 @@ pub fn link_of(node: &[u32], s: Settings, b: u32) -> u32
 // Makes `next` the block that follows b.
 pub fn set_link(node: &mut [u32], s: Settings, b: u32, next: u32)
     requires { Block s node.old b }
-    ensures { node.new ≡ set node.old (linkAt s b) next }
+    ensures { node.new ≡ set node.old (link_at s b) next }
 {
     let at = layout::link_at(s, b as usize);
     node[at] = next;
@@ -63,7 +63,7 @@ pub fn last_of(node: &[u32], s: Settings, b: u32, owed: usize) -> u32
 pub fn give_back(node: &mut [u32], s: Settings, b: u32, owed: usize)
     requires walks { Walks s node.old owed b }
     requires le_owed { 1 ≤ owed }
-    ensures { node.new ≡ givenBack s node.old owed b }
+    ensures { node.new ≡ given_back s node.old owed b }
 {
     let last = last_of(node, s, b, owed);
     let first = node[0];
@@ -98,7 +98,7 @@ pub enum Taken {
 // Takes the first n blocks of the free list, in its order.
 pub fn take(node: &mut [u32], s: Settings, n: usize) -> Taken
     requires { Takes s node.old n }
-    ensures answer { result ≡ takenAnswer s node.old n }
+    ensures answer { result ≡ taken_answer s node.old n }
     ensures stored { node.new ≡ taken s node.old n }
 {
     let first = node[0];

@@ -2,20 +2,20 @@
 ghost use Rattle.std.specs.Prelude.{◌≡◌, ◌-◌, ◌<◌, length};
 ghost use Rattle.layout.specs.Places.{nodes, node};
 ghost use Rattle.queues.specs.Queue.{items};
-ghost use Rattle.sound.specs.Reading.{sendItems, ackItems};
-ghost use Rattle.postman.specs.Position.{at, atRest};
+ghost use Rattle.sound.specs.Reading.{send_items, ack_items};
+ghost use Rattle.postman.specs.Position.{at, at_rest};
 ghost use Rattle.postman.specs.Round.{post};
 ghost use Rattle.postman.specs.Asked.{SoundAt};
 ghost use Rattle.stages_keep.specs.Steps.{
   space_of,
-  handedOn,
+  handed_on,
   delivered,
   carried,
-  carriedAll,
-  carriedFrom,
+  carried_all,
+  carried_from,
   collected,
-  collectedAll,
-  collectedFrom,
+  collected_all,
+  collected_from,
 };
 ghost use Rattle.lending.specs.Asked.{Lent, HasQueue};
 ghost use Rattle.carrying.specs.Asked.{
@@ -51,9 +51,9 @@ fn count_in(memory: &[u32], s: Settings, i: usize, k: Kind, q: usize) -> usize
 
 // The letters in node i's send queue for j.
 fn letters_for(memory: &[u32], s: Settings, j: usize, i: usize) -> usize
-    requires sound_at { SoundAt s memory.now j atRest }
+    requires sound_at { SoundAt s memory.now j at_rest }
     requires i_lt_nodes { i < nodes }
-    ensures { result ≡ length (sendItems s memory.now i j) }
+    ensures { result ≡ length (send_items s memory.now i j) }
 {
     let q = layout::send_at(s, j);
     count_in(memory, s, i, queues::send_kind(s), q)
@@ -61,9 +61,9 @@ fn letters_for(memory: &[u32], s: Settings, j: usize, i: usize) -> usize
 
 // The letters that node i has acknowledged to j.
 fn acks_for(memory: &[u32], s: Settings, j: usize, i: usize) -> usize
-    requires sound_at { SoundAt s memory.now j atRest }
+    requires sound_at { SoundAt s memory.now j at_rest }
     requires i_lt_nodes { i < nodes }
-    ensures { result ≡ length (ackItems s memory.now i j) }
+    ensures { result ≡ length (ack_items s memory.now i j) }
 {
     let q = layout::ack_at(s, j);
     count_in(memory, s, i, queues::ack_kind(s), q)
@@ -72,7 +72,7 @@ fn acks_for(memory: &[u32], s: Settings, j: usize, i: usize) -> usize
 // Stage 3 on: acknowledges node i's first letter, and drops the send item.
 pub fn hand_on(memory: &mut [u32], s: Settings, j: usize, i: usize, r: Round) -> Round
     requires { SoundAt s memory.old j (at 3 i 0) }
-    ensures { post memory.new result ≡ handedOn s j memory.old i r }
+    ensures { post memory.new result ≡ handed_on s j memory.old i r }
 {
     let how = stages::put_ack(memory, s, i, j);
     let Stage::Done = how else {
@@ -111,7 +111,7 @@ fn carry(memory: &mut [u32], s: Settings, j: usize, i: usize, r: Round) -> Round
 // Step 2 on node i: k letters.
 fn carry_all(memory: &mut [u32], s: Settings, j: usize, i: usize, k: usize, r: Round) -> Round
     requires { Carries s memory.old j i k r }
-    ensures { post memory.new result ≡ carriedAll s j k memory.old i r }
+    ensures { post memory.new result ≡ carried_all s j k memory.old i r }
 {
     let mut letters = k;
     let mut a = r;
@@ -129,7 +129,7 @@ fn carry_all(memory: &mut [u32], s: Settings, j: usize, i: usize, k: usize, r: R
 // Step 2 on the nodes from i on.
 pub fn carry_from(memory: &mut [u32], s: Settings, j: usize, i: usize, r: Round) -> Round
     requires { CarriesFrom s memory.old j i r }
-    ensures { post memory.new result ≡ carriedFrom s j (nodes - i) memory.old i r }
+    ensures { post memory.new result ≡ carried_from s j (nodes - i) memory.old i r }
 {
     let mut other = i;
     let mut a = r;
@@ -157,7 +157,7 @@ fn collect(memory: &mut [u32], s: Settings, j: usize, i: usize, r: Round) -> Rou
 // Step 1 on node i: k items.
 fn collect_all(memory: &mut [u32], s: Settings, j: usize, i: usize, k: usize, r: Round) -> Round
     requires { Collects s memory.old j i k r }
-    ensures { post memory.new result ≡ collectedAll s j k memory.old i r }
+    ensures { post memory.new result ≡ collected_all s j k memory.old i r }
 {
     let mut items = k;
     let mut a = r;
@@ -171,7 +171,7 @@ fn collect_all(memory: &mut [u32], s: Settings, j: usize, i: usize, k: usize, r:
 // Step 1 on the nodes from i on.
 pub fn collect_from(memory: &mut [u32], s: Settings, j: usize, i: usize, r: Round) -> Round
     requires { CollectsFrom s memory.old j i r }
-    ensures { post memory.new result ≡ collectedFrom s j (nodes - i) memory.old i r }
+    ensures { post memory.new result ≡ collected_from s j (nodes - i) memory.old i r }
 {
     let mut other = i;
     let mut a = r;

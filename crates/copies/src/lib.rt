@@ -3,9 +3,9 @@ ghost use Rattle.std.specs.Prelude.{◌≡◌, ◌+◌, ◌-◌, ◌≤◌, ◌<
 ghost use Rattle.words.specs.Words.{every, alike, part};
 ghost use Rattle.layout.specs.Places.{nodes, block_at};
 ghost use Rattle.blocks.specs.Asked.{Block};
-ghost use Rattle.sound.specs.Letters.{wordsFrom};
+ghost use Rattle.sound.specs.Letters.{words_from};
 ghost use Rattle.visits.specs.Letters.{Readable};
-ghost use Rattle.copies.specs.Copy.{copyRight, Lettered};
+ghost use Rattle.copies.specs.Copy.{copy_right, Lettered};
 
 use settings::Settings;
 
@@ -42,7 +42,7 @@ fn is_same_block(a: &[u32], x: u32, c: &[u32], y: u32, s: Settings, n: usize) ->
 fn is_same_letter(a: &[u32], b: u32, c: &[u32], d: u32, s: Settings) -> bool
     requires readable { Readable s a.now b }
     requires readable_2 { Readable s c.now d }
-    ensures { result ≡ alike (wordsFrom s a.now b) (wordsFrom s c.now d) }
+    ensures { result ≡ alike (words_from s a.now b) (words_from s c.now d) }
 {
     let mut left = letters::told_length(a, s, b) as usize;
     if letters::told_length(c, s, d) as usize != left {
@@ -66,7 +66,7 @@ fn is_same_letter(a: &[u32], b: u32, c: &[u32], d: u32, s: Settings) -> bool
 fn is_right_copy(memory: &[u32], s: Settings, j: usize) -> bool
     requires lettered { Lettered s memory.now }
     requires j_lt_nodes { j < nodes }
-    ensures { result ≡ copyRight s memory.now j }
+    ensures { result ≡ copy_right s memory.now j }
 {
     let at = 6 + j * 3;
     if memory[at] != 2 {
@@ -84,7 +84,7 @@ fn is_right_copy(memory: &[u32], s: Settings, j: usize) -> bool
 // The same of every node.
 pub fn are_right_copies(memory: &[u32], s: Settings) -> bool
     requires { Lettered s memory.now }
-    ensures { result ≡ every nodes (copyRight s memory.now) }
+    ensures { result ≡ every nodes (copy_right s memory.now) }
 {
     let mut j: usize = 0;
     while j < 6 {

@@ -2,7 +2,7 @@
 ghost use Rattle.std.specs.Prelude.{◌≡◌, ◌+◌, ◌-◌, ◌<◌, min};
 ghost use Rattle.std.proofs.lemmas.List.Edits.{sets};
 ghost use Rattle.words.specs.Words.{part};
-ghost use Rattle.layout.specs.Places.{nodes, block_at, node as stretch, withNode};
+ghost use Rattle.layout.specs.Places.{nodes, block_at, node as stretch, with_node};
 ghost use Rattle.layout.specs.Asked.{Sized};
 ghost use Rattle.blocks.specs.Chain.{link};
 ghost use Rattle.blocks.specs.Asked.{Block};
@@ -47,7 +47,7 @@ fn copy_block(
 ) -> usize
     requires { CopiesBlock s memory.old i x j y }
     ensures answer { result ≡ min left (s.b - 1) }
-    ensures stored { memory.new ≡ withNode s memory.old j (sets (stretch s memory.old j) (block_at s y) (piece s (stretch s memory.old i) x 0 left)) }
+    ensures stored { memory.new ≡ with_node s memory.old j (sets (stretch s memory.old j) (block_at s y) (piece s (stretch s memory.old i) x 0 left)) }
 {
     let n = letters::fewer(left, s.b - 1);
     let from = layout::node_at(s, i) + layout::block_at(s, x as usize);

@@ -1,10 +1,10 @@
 -- The table of 'What the contracts must rule out': the eight block counts, the two sizes, and closing gaps.
 use Rattle.std.specs.Prelude.{List, [], ◌∷◌, ◌++◌, map, ℕ, ◌-◌, length, replicate}
 use Rattle.settings.specs.declared.Settings.{Settings}
-use Rattle.layout.specs.Places.{memorySize}
+use Rattle.layout.specs.Places.{memory_size}
 use Rattle.blocks.specs.Chain.{needs}
-use Rattle.queues.specs.Queue.{contents, taskKind}
-use Rattle.queues.specs.Items.{gapFlag}
+use Rattle.queues.specs.Queue.{contents, task_kind}
+use Rattle.queues.specs.Items.{gap_flag}
 use Rattle.gaps.specs.Close.{closed}
 
 -- what is computed
@@ -20,13 +20,13 @@ abbrev pub settings : ℕ → ℕ → ℕ → ℕ → ℕ → Settings
 settings b m s a t = record { b = b; m = m; s = s; a = a; t = t }
 
 -- the words of a task queue with T slots that starts with slot 0: start, items, gap flag, full count, empty count, slots
-abbrev pub taskWords : ℕ → List ℕ → List ℕ
-taskWords t xs = 0 ∷ length xs ∷ gapFlag xs ∷ 0 ∷ 0 ∷ (xs ++ replicate (t - length xs) 0)
+abbrev pub task_words : ℕ → List ℕ → List ℕ
+task_words t xs = 0 ∷ length xs ∷ gap_flag xs ∷ 0 ∷ 0 ∷ (xs ++ replicate (t - length xs) 0)
 
 unfoldable pub value : What → List ℕ
 value (blocks b n) = needs (settings b 1 2 2 2) n ∷ []
-value (words b m s a t) = memorySize (settings b m s a t) ∷ []
-value (closing xs) = contents (taskKind (settings 4 1 2 2 3)) (closed (settings 4 1 2 2 3) (taskWords 3 xs) 0) 0
+value (words b m s a t) = memory_size (settings b m s a t) ∷ []
+value (closing xs) = contents (task_kind (settings 4 1 2 2 3)) (closed (settings 4 1 2 2 3) (task_words 3 xs) 0) 0
 
 -- a row: what is computed, and what the document says of it
 pub record Row : Type 0 where

@@ -1,8 +1,8 @@
 // Closing the gaps of a task queue, and the append that closes them first.
 ghost use Rattle.std.specs.Prelude.{◌≡◌, replicate};
-ghost use Rattle.queues.specs.Queue.{Queue, contents, taskKind};
+ghost use Rattle.queues.specs.Queue.{Queue, contents, task_kind};
 ghost use Rattle.queues.specs.Items.{live};
-ghost use Rattle.gaps.specs.Close.{laid, closed, roomy, taskAppended, taskAnswer};
+ghost use Rattle.gaps.specs.Close.{laid, closed, roomy, task_appended, task_answer};
 ghost use Rattle.gaps.specs.Row.{Row};
 
 use queues::{Appended, Kind};
@@ -44,7 +44,7 @@ fn lay(node: &mut [u32], k: Kind, q: usize, row: &[u32; 255])
 
 // Closes the gaps: live items keep their order and stand from the start slot on, flag 0.
 pub fn close(node: &mut [u32], s: Settings, q: usize)
-    requires { Queue (taskKind s) node.old q }
+    requires { Queue (task_kind s) node.old q }
     ensures { node.new ≡ closed s node.old q }
 {
     let k = queues::task_kind(s);
@@ -57,7 +57,7 @@ pub fn close(node: &mut [u32], s: Settings, q: usize)
 
 // Closes the gaps where the queue is at its length and the flag is 1.
 fn make_room(node: &mut [u32], s: Settings, q: usize)
-    requires { Queue (taskKind s) node.old q }
+    requires { Queue (task_kind s) node.old q }
     ensures { node.new ≡ roomy s node.old q }
 {
     let items = node[q + 1] as usize;
@@ -73,8 +73,8 @@ fn make_room(node: &mut [u32], s: Settings, q: usize)
 
 // Puts an item behind the last of a task queue, closing its gaps first where that makes room, or counts that there was none.
 pub fn append(node: &mut [u32], s: Settings, q: usize, item: u32) -> Appended
-    requires { Queue (taskKind s) node.old q }
-    ensures { (node.new ≡ taskAppended s node.old q item) × (result ≡ taskAnswer s node.old q) }
+    requires { Queue (task_kind s) node.old q }
+    ensures { (node.new ≡ task_appended s node.old q item) × (result ≡ task_answer s node.old q) }
 {
     make_room(node, s, q);
     let k = queues::task_kind(s);

@@ -10,22 +10,22 @@ use borrow.Author.Tests.{le-leb}
 use Rattle.words.proofs.Lists.{split}
 use Rattle.blocks.specs.Chain.{needs}
 use Rattle.blocks.specs.Moves.{enough}
-use Rattle.tasks.specs.Table.{isBound}
+use Rattle.tasks.specs.Table.{is_bound}
 use Rattle.taking.specs.declared.Found.{Found}
 use Rattle.taking.specs.declared.Found.TheVariants.{At, Nothing}
-use Rattle.sound.specs.Reading.{settingsIn, tableIn, turnIn}
+use Rattle.sound.specs.Reading.{settings_in, table_in, turn_in}
 use Rattle.sound.specs.Sound.{sound}
 use Rattle.settings.specs.declared.Settings.{Settings}
-use Rattle.layout.specs.Places.{taskAt}
+use Rattle.layout.specs.Places.{task_at}
 use Rattle.taking.specs.Find.{found}
-use Rattle.posting.specs.Post.{hasRoom, posted}
+use Rattle.posting.specs.Post.{has_room, posted}
 use Rattle.posting.specs.declared.Goal.{Goal}
 use Rattle.posting.specs.declared.Sent.{Sent}
 use Rattle.posting.specs.declared.Sent.TheVariants.{Done as Sent-done, NotSound as Sent-not-sound, SourceNotBound, DestinationNotBound, BodyTooLong, TooFewBlocks, QueueFull}
-use Rattle.send.specs.Outcome.{fits, postedIn, delivered, send}
+use Rattle.send.specs.Outcome.{fits, posted_in, delivered, send}
 use Rattle.receive.specs.declared.Received.{Received}
 use Rattle.receive.specs.declared.Received.TheVariants.{Done as Received-done, NotSound as Received-not-sound, DestinationNotBound as Received-destination, SourceNotBound as Received-source, NoLetter, NoLetterQueueFull, OutTooShort as Received-short}
-use Rattle.receive.specs.Take.{body_of, filled, inVain, tookAt, took}
+use Rattle.receive.specs.Take.{body_of, filled, in_vain, took_at, took}
 use Rattle.receive.specs.Outcome.{collected, receive}
 use Rattle.postman.specs.declared.Stage.{Stage}
 use Rattle.postman.specs.declared.Stage.TheVariants.{Done, Stopped}
@@ -43,33 +43,33 @@ use Rattle.listing.specs.Outcome.{list}
 use Rattle.history.specs.Demand.{NeverStuck, Room}
 
 -- ---- the answers that say 1
-abbrev sentOne : Sent → ℕ
-sentOne (Sent-done n) = 0
-sentOne Sent-not-sound = 1
-sentOne SourceNotBound = 0
-sentOne DestinationNotBound = 0
-sentOne BodyTooLong = 0
-sentOne TooFewBlocks = 0
-sentOne QueueFull = 0
+abbrev sent_one : Sent → ℕ
+sent_one (Sent-done n) = 0
+sent_one Sent-not-sound = 1
+sent_one SourceNotBound = 0
+sent_one DestinationNotBound = 0
+sent_one BodyTooLong = 0
+sent_one TooFewBlocks = 0
+sent_one QueueFull = 0
 
-abbrev receivedOne : Received → ℕ
-receivedOne (Received-done a n) = 0
-receivedOne Received-not-sound = 1
-receivedOne Received-destination = 0
-receivedOne Received-source = 0
-receivedOne NoLetter = 0
-receivedOne NoLetterQueueFull = 0
-receivedOne Received-short = 0
+abbrev received_one : Received → ℕ
+received_one (Received-done a n) = 0
+received_one Received-not-sound = 1
+received_one Received-destination = 0
+received_one Received-source = 0
+received_one NoLetter = 0
+received_one NoLetterQueueFull = 0
+received_one Received-short = 0
 
-abbrev turnedOne : Turned → ℕ
-turnedOne (Finished j l b) = 0
-turnedOne (Turned-stopped n j l b) = 0
-turnedOne Turned-not-sound = 1
+abbrev turned_one : Turned → ℕ
+turned_one (Finished j l b) = 0
+turned_one (Turned-stopped n j l b) = 0
+turned_one Turned-not-sound = 1
 
-abbrev listedOne : Listed → ℕ
-listedOne (Listed-done n) = 0
-listedOne Listed-not-sound = 1
-listedOne (OutTooShort n) = 0
+abbrev listed_one : Listed → ℕ
+listed_one (Listed-done n) = 0
+listed_one Listed-not-sound = 1
+listed_one (OutTooShort n) = 0
 
 -- what is found, with its equation
 found? {ℓ} : {P : Type ℓ} (x : Found) → ((n : ℕ) → x ≡ At n → P) → (x ≡ Nothing → P) → P
@@ -78,78 +78,78 @@ found? Nothing f g = g refl
 
 module _ (m : List ℕ) (e : sound m ≡ true) where
   -- ---- send
-  posted-free : (s : Settings) (l : List ℕ) (g : Goal) (ws : List ℕ) → sentOne (posted s l g ws).answer ≡ 0
+  posted-free : (s : Settings) (l : List ℕ) (g : Goal) (ws : List ℕ) → sent_one (posted s l g ws).answer ≡ 0
   unfolding posted
   posted-free s l g ws =
       split (enough s l (needs s (length ws)))
-      (λ x. rw x (split (hasRoom s l g) (λ y. rw y) (λ y. rw y)))
+      (λ x. rw x (split (has_room s l g) (λ y. rw y) (λ y. rw y)))
       (λ x. rw x)
 
-  send-free : (source destination : ℕ) (body : List ℕ) → sentOne (send m source destination body).answer ≡ 0
-  unfolding send delivered postedIn
+  send-free : (source destination : ℕ) (body : List ℕ) → sent_one (send m source destination body).answer ≡ 0
+  unfolding send delivered posted_in
   send-free source destination body =
       rw e
-      (split (isBound (tableIn m) source)
-      (λ x. rw x (split (isBound (tableIn m) destination)
-      (λ y. rw y (split (fits (settingsIn m) (length body))
-      (λ z. rw z (posted-free (settingsIn m) _ _ _))
+      (split (is_bound (table_in m) source)
+      (λ x. rw x (split (is_bound (table_in m) destination)
+      (λ y. rw y (split (fits (settings_in m) (length body))
+      (λ z. rw z (posted-free (settings_in m) _ _ _))
       (λ z. rw z)))
       (λ y. rw y)))
       (λ x. rw x))
 
   -- ---- receive
-  took-free : (s : Settings) (l : List ℕ) (q source : ℕ) (out : List ℕ) → receivedOne (took s l q source out).answer ≡ 0
-  unfolding took tookAt inVain
+  took-free : (s : Settings) (l : List ℕ) (q source : ℕ) (out : List ℕ) → received_one (took s l q source out).answer ≡ 0
+  unfolding took took_at in_vain
   took-free s l q source out =
-      found? (found s l (taskAt s q) source)
+      found? (found s l (task_at s q) source)
       (λ k x. rw x (split (leb (length (body_of s l q source k)) (length out)) (λ y. rw y) (λ y. rw y)))
       (λ x. rw x (split (filled s l q source) (λ y. rw y) (λ y. rw y)))
 
-  receive-free : (destination source : ℕ) (out : List ℕ) → receivedOne (receive m destination source out).answer ≡ 0
+  receive-free : (destination source : ℕ) (out : List ℕ) → received_one (receive m destination source out).answer ≡ 0
   unfolding receive collected
   receive-free destination source out =
       rw e
-      (split (isBound (tableIn m) destination)
-      (λ x. rw x (split (eqb source 0 || isBound (tableIn m) source)
-      (λ y. rw y (took-free (settingsIn m) _ _ _ _))
+      (split (is_bound (table_in m) destination)
+      (λ x. rw x (split (eqb source 0 || is_bound (table_in m) source)
+      (λ y. rw y (took-free (settings_in m) _ _ _ _))
       (λ y. rw y)))
       (λ x. rw x))
 
   -- ---- turn
-  answered-free : (j : ℕ) (r : Round) (h : Stage) → turnedOne (answered j r h) ≡ 0
+  answered-free : (j : ℕ) (r : Round) (h : Stage) → turned_one (answered j r h) ≡ 0
   answered-free j r Done = refl
   answered-free j r (Stopped n) = refl
 
-  turn-free : turnedOne (turn m).answer ≡ 0
+  turn-free : turned_one (turn m).answer ≡ 0
   unfolding turn taken
   turn-free =
-      let p = gone (settingsIn m) (turnIn m) m (position_of m (turnIn m)) at_start in
-      rw e (answered-free (turnIn m) p.round p.round.how)
+      let p = gone (settings_in m) (turn_in m) m (position_of m (turn_in m)) at_start in
+      rw e (answered-free (turn_in m) p.round p.round.how)
 
   -- ---- list
-  list-free : (out : List ℕ) → listedOne (list m out).answer ≡ 0
+  list-free : (out : List ℕ) → listed_one (list m out).answer ≡ 0
   unfolding list
   list-free out =
-      rw e (split (leb (length (listed (settingsIn m) m) * 6) (length out)) (λ x. rw x) (λ x. rw x))
+      rw e (split (leb (length (listed (settings_in m) m) * 6) (length out)) (λ x. rw x) (λ x. rw x))
 
 -- NO CALL IS REFUSED BY 1
 pub never_stuck : (m : List ℕ) → sound m ≡ true → (accepted received : List (List ℕ)) → NeverStuck (record { memory = m; accepted = accepted; received = received })
 never_stuck m e accepted received =
     record {
-      sends = λ source destination body x. omega (arith, send-free m e source destination body, ap sentOne x);
-      receives = λ destination source out x. omega (arith, receive-free m e destination source out, ap receivedOne x);
-      turns = λ x. omega (arith, turn-free m e, ap turnedOne x);
-      lists = λ out x. omega (arith, list-free m e out, ap listedOne x);
+      sends = λ source destination body x. omega (arith, send-free m e source destination body, ap sent_one x);
+      receives = λ destination source out x. omega (arith, receive-free m e destination source out, ap received_one x);
+      turns = λ x. omega (arith, turn-free m e, ap turned_one x);
+      lists = λ out x. omega (arith, list-free m e out, ap listed_one x);
     }
 
 -- THE LIST HAS ROOM
-pub has_room : (m : List ℕ) → sound m ≡ true → (accepted received : List (List ℕ)) → Room (record { memory = m; accepted = accepted; received = received })
+pub has_room_lem : (m : List ℕ) → sound m ≡ true → (accepted received : List (List ℕ)) → Room (record { memory = m; accepted = accepted; received = received })
 unfolding list
-has_room m e accepted received =
-    let n : ℕ = length (listed (settingsIn m) m) in
+has_room_lem m e accepted received =
+    let n : ℕ = length (listed (settings_in m) m) in
     let out : List ℕ = replicate (n * 6) 0 in
     record {
-      out = replicate (length (listed (settingsIn m) m) * 6) 0;
-      letters = length (listed (settingsIn m) m);
+      out = replicate (length (listed (settings_in m) m) * 6) 0;
+      letters = length (listed (settings_in m) m);
       done = rw (e, le-leb (n * 6) (length out) (omega (arith, length-replicate {A = ℕ} (n * 6) 0)));
     }

@@ -1,12 +1,12 @@
 -- Runs: any list of calls on one memory, and the letters accepted and received since its last successful set-up. Demand 3.
 use Rattle.std.specs.Prelude.{List, [], ◌∷◌, ◌++◌, ℕ, take}
-use Rattle.settings.specs.Made.{settingsOf}
-use Rattle.sound.specs.Reading.{tableIn}
+use Rattle.settings.specs.Made.{settings_of}
+use Rattle.sound.specs.Reading.{table_in}
 use Rattle.setup.specs.declared.SetUp.{SetUp}
 use Rattle.setup.specs.declared.SetUp.TheVariants.{Done as SetUp-done, SettingOutOfRange, WrongTable, OtherSize}
-use Rattle.setup.specs.Outcome.{setUp}
-use Rattle.letters.specs.Made.{letterOf}
-use Rattle.posting.specs.Letter.{headerOf}
+use Rattle.setup.specs.Outcome.{set_up}
+use Rattle.letters.specs.Made.{letter_of}
+use Rattle.posting.specs.Letter.{header_of}
 use Rattle.posting.specs.declared.Sent.{Sent}
 use Rattle.posting.specs.declared.Sent.TheVariants.{Done as Sent-done, NotSound as Sent-not-sound, SourceNotBound as Sent-source, DestinationNotBound as Sent-destination, BodyTooLong, TooFewBlocks, QueueFull}
 use Rattle.send.specs.Outcome.{send}
@@ -30,45 +30,45 @@ pub record Past : Type 0 where
   pub received : List (List ℕ)
 
 -- the letter that a send is asked to send; it is accepted where the send is done
-abbrev pub sentLetter : List ℕ → ℕ → ℕ → List ℕ → List ℕ
-sentLetter table source destination body = letterOf (headerOf table source destination) body
+abbrev pub sent_letter : List ℕ → ℕ → ℕ → List ℕ → List ℕ
+sent_letter table source destination body = letter_of (header_of table source destination) body
 
-abbrev pub acceptedBy : Sent → List ℕ → List (List ℕ)
-acceptedBy (Sent-done blocks) letter = letter ∷ []
-acceptedBy Sent-not-sound letter = []
-acceptedBy Sent-source letter = []
-acceptedBy Sent-destination letter = []
-acceptedBy BodyTooLong letter = []
-acceptedBy TooFewBlocks letter = []
-acceptedBy QueueFull letter = []
+abbrev pub accepted_by : Sent → List ℕ → List (List ℕ)
+accepted_by (Sent-done blocks) letter = letter ∷ []
+accepted_by Sent-not-sound letter = []
+accepted_by Sent-source letter = []
+accepted_by Sent-destination letter = []
+accepted_by BodyTooLong letter = []
+accepted_by TooFewBlocks letter = []
+accepted_by QueueFull letter = []
 
 -- the letter that a receive hands over: from the source that it answers, with as many words of out as it answers
-abbrev pub receivedBy : List ℕ → ℕ → Received → List ℕ → List (List ℕ)
-receivedBy table destination (Received-done source n) out = sentLetter table source destination (take n out) ∷ []
-receivedBy table destination Received-not-sound out = []
-receivedBy table destination Received-destination out = []
-receivedBy table destination Received-source out = []
-receivedBy table destination NoLetter out = []
-receivedBy table destination NoLetterQueueFull out = []
-receivedBy table destination OutTooShort out = []
+abbrev pub received_by : List ℕ → ℕ → Received → List ℕ → List (List ℕ)
+received_by table destination (Received-done source n) out = sent_letter table source destination (take n out) ∷ []
+received_by table destination Received-not-sound out = []
+received_by table destination Received-destination out = []
+received_by table destination Received-source out = []
+received_by table destination NoLetter out = []
+received_by table destination NoLetterQueueFull out = []
+received_by table destination OutTooShort out = []
 
 -- a successful set-up begins anew; a refused one leaves all
-abbrev pub afterSetUp : SetUp → Past → List ℕ → Past
-afterSetUp SetUp-done p memory = record { memory = memory; accepted = []; received = [] }
-afterSetUp SettingOutOfRange p memory = record { memory = memory; accepted = p.accepted; received = p.received }
-afterSetUp WrongTable p memory = record { memory = memory; accepted = p.accepted; received = p.received }
-afterSetUp OtherSize p memory = record { memory = memory; accepted = p.accepted; received = p.received }
+abbrev pub after_set_up : SetUp → Past → List ℕ → Past
+after_set_up SetUp-done p memory = record { memory = memory; accepted = []; received = [] }
+after_set_up SettingOutOfRange p memory = record { memory = memory; accepted = p.accepted; received = p.received }
+after_set_up WrongTable p memory = record { memory = memory; accepted = p.accepted; received = p.received }
+after_set_up OtherSize p memory = record { memory = memory; accepted = p.accepted; received = p.received }
 
 -- ONE CALL, by the definitions that the public contracts cite
 unfoldable pub after_call : Past → Call → Past
 after_call p (SetsUp b m s a t table) =
-    let o = setUp (settingsOf b m s a t) table p.memory in
-    afterSetUp o.answer p o.memory
+    let o = set_up (settings_of b m s a t) table p.memory in
+    after_set_up o.answer p o.memory
 after_call p (Sends source destination body) =
     let o = send p.memory source destination body in
     record {
       memory = o.memory;
-      accepted = p.accepted ++ acceptedBy o.answer (sentLetter (tableIn p.memory) source destination body);
+      accepted = p.accepted ++ accepted_by o.answer (sent_letter (table_in p.memory) source destination body);
       received = p.received;
     }
 after_call p (Receives destination source out) =
@@ -76,12 +76,12 @@ after_call p (Receives destination source out) =
     record {
       memory = o.memory;
       accepted = p.accepted;
-      received = p.received ++ receivedBy (tableIn p.memory) destination o.answer o.out;
+      received = p.received ++ received_by (table_in p.memory) destination o.answer o.out;
     }
 after_call p Turns = record { memory = (turn p.memory).memory; accepted = p.accepted; received = p.received }
 after_call p (Lists out) = p
 
 -- A RUN: one call after another
-unfoldable pub afterAll : Past → List Call → Past
-afterAll p [] = p
-afterAll p (c ∷ cs) = afterAll (after_call p c) cs
+unfoldable pub after_all : Past → List Call → Past
+after_all p [] = p
+after_all p (c ∷ cs) = after_all (after_call p c) cs

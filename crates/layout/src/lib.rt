@@ -3,20 +3,20 @@ ghost use Rattle.std.specs.Prelude.{◌≡◌, ◌+◌, ◌≤◌, ◌<◌, leng
 ghost use Rattle.words.specs.Words.{part};
 ghost use Rattle.settings.specs.Range.{InRange};
 ghost use Rattle.layout.specs.Places.{
-  sendAt,
-  ackAt,
-  taskAt,
+  send_at,
+  ack_at,
+  task_at,
   block_at,
-  linkAt,
-  nodeSize,
-  memorySize,
-  queueHead,
-  taskHead,
+  link_at,
+  node_size,
+  memory_size,
+  queue_head,
+  task_head,
   nodes,
   node,
   table_at,
-  tableWords,
-  nodesAt,
+  table_words,
+  nodes_at,
 };
 ghost use Rattle.layout.specs.Asked.{Sized, IsNodeSize, IsNodeAt, IsAt};
 
@@ -33,7 +33,7 @@ pub fn node_size(s: Settings) -> usize
 // The words of the whole memory.
 pub fn memory_size(s: Settings) -> usize
     requires { InRange s }
-    ensures { result ≡ memorySize s }
+    ensures { result ≡ memory_size s }
 {
     536 + 6 * node_size(s)
 }
@@ -51,7 +51,7 @@ pub fn node_at(s: Settings, i: usize) -> usize
 pub fn send_at(s: Settings, k: usize) -> usize
     requires in_range { InRange s }
     requires k_bound { k < 6 }
-    ensures { IsAt s (sendAt s k) (queueHead + s.s) result }
+    ensures { IsAt s (send_at s k) (queue_head + s.s) result }
 {
     2 + k * (3 + s.s)
 }
@@ -60,7 +60,7 @@ pub fn send_at(s: Settings, k: usize) -> usize
 pub fn ack_at(s: Settings, k: usize) -> usize
     requires in_range { InRange s }
     requires k_bound { k < 6 }
-    ensures { IsAt s (ackAt s k) (queueHead + s.a) result }
+    ensures { IsAt s (ack_at s k) (queue_head + s.a) result }
 {
     2 + 6 * (3 + s.s) + k * (3 + s.a)
 }
@@ -69,7 +69,7 @@ pub fn ack_at(s: Settings, k: usize) -> usize
 pub fn task_at(s: Settings, q: usize) -> usize
     requires in_range { InRange s }
     requires q_bound { q < 64 }
-    ensures { IsAt s (taskAt s q) (taskHead + s.t) result }
+    ensures { IsAt s (task_at s q) (task_head + s.t) result }
 {
     2 + 6 * (3 + s.s) + 6 * (3 + s.a) + q * (5 + s.t)
 }
@@ -87,7 +87,7 @@ pub fn block_at(s: Settings, b: usize) -> usize
 pub fn link_at(s: Settings, b: usize) -> usize
     requires in_range { InRange s }
     requires le_b { (1 ≤ b) × (b ≤ s.m) }
-    ensures { IsAt s (linkAt s b) 1 result }
+    ensures { IsAt s (link_at s b) 1 result }
 {
     block_at(s, b) + (s.b - 1)
 }
@@ -96,7 +96,7 @@ pub fn link_at(s: Settings, b: usize) -> usize
 pub fn stretch(memory: &[u32], s: Settings, i: usize) -> &[u32]
     requires sized { Sized s memory.now }
     requires i_lt_nodes { i < nodes }
-    ensures { (result.now ≡ node s memory.now i) × (length result.now ≡ nodeSize s) }
+    ensures { (result.now ≡ node s memory.now i) × (length result.now ≡ node_size s) }
 {
     let a = node_at(s, i);
     let e = a + node_size(s);
@@ -105,8 +105,8 @@ pub fn stretch(memory: &[u32], s: Settings, i: usize) -> &[u32]
 
 // The task table of the memory, to be read.
 pub fn table(memory: &[u32]) -> &[u32]
-    requires { nodesAt ≤ length memory.now }
-    ensures { (result.now ≡ part memory.now table_at nodesAt) × (length result.now ≡ tableWords) }
+    requires { nodes_at ≤ length memory.now }
+    ensures { (result.now ≡ part memory.now table_at nodes_at) × (length result.now ≡ table_words) }
 {
     &memory[24..536]
 }

@@ -8,53 +8,53 @@ use lib.Dec.{eqb}
 use lib.ListN.{get_or}
 use Rattle.words.proofs.Lists.{and-true}
 use Rattle.settings.specs.declared.Settings.{Settings}
-use Rattle.layout.specs.Places.{sendAt, taskAt, node}
-use Rattle.layout.specs.Numbers.{sourceTaskWord, sourceNodeWord, destinationTaskWord}
-use Rattle.tasks.specs.Table.{node_of, queueOf, isBound}
-use Rattle.tasks.specs.Seat.{seatOf}
+use Rattle.layout.specs.Places.{send_at, task_at, node}
+use Rattle.layout.specs.Numbers.{source_task_word, source_node_word, destination_task_word}
+use Rattle.tasks.specs.Table.{node_of, queue_of, is_bound}
+use Rattle.tasks.specs.Seat.{seat_of}
 use Rattle.tasks.specs.declared.Seat.TheVariants.{At, Unbound}
-use Rattle.tasks.proofs.Laws.{told_at, told-unbound, seat-below}
+use Rattle.tasks.proofs.Laws.{told_at, told-unbound, seat_below}
 use Rattle.queues.specs.declared.Kind.{Kind}
-use Rattle.queues.specs.Queue.{sendKind, item_at}
-use Rattle.queues.proofs.Views.{contents-item}
-use Rattle.sound.specs.Reading.{tableIn}
-use Rattle.sound.specs.Letters.{wordsFrom, rightHeader}
-use Rattle.stages_keep.specs.Steps.{first_of, queueFor}
+use Rattle.queues.specs.Queue.{send_kind, item_at}
+use Rattle.queues.proofs.Views.{contents_item}
+use Rattle.sound.specs.Reading.{table_in}
+use Rattle.sound.specs.Letters.{words_from, right_header}
+use Rattle.stages_keep.specs.Steps.{first_of, queue_for}
 use Rattle.lending.specs.Asked.{Addressed, HasQueue, HasFirst}
 
 -- ---- the first item of a send queue
-module _ (s : Settings) (m : List ℕ) (i j : ℕ) (g : HasFirst s m i j) {k : Kind} {q : ℕ} (ek : k ≡ sendKind s) (eq : q ≡ sendAt s j) where
+module _ (s : Settings) (m : List ℕ) (i j : ℕ) (g : HasFirst s m i j) {k : Kind} {q : ℕ} (ek : k ≡ send_kind s) (eq : q ≡ send_at s j) where
   pub first-queue : HasQueue s m i k q
   first-queue = rw (ek, eq) (record { lent = g.lent; queue = g.queue })
 
-  pub first-item : {r : ℕ} → r ≡ item_at k (node s m i) q 0 → r ≡ first_of s j m i
-  first-item e = e ∙ rw (ek, eq) (contents-item (sendKind s) (node s m i) (sendAt s j) g.queue 0 (omega (arith, g.queue.placed.some)))
+  pub first_item : {r : ℕ} → r ≡ item_at k (node s m i) q 0 → r ≡ first_of s j m i
+  first_item e = e ∙ rw (ek, eq) (contents_item (send_kind s) (node s m i) (send_at s j) g.queue 0 (omega (arith, g.queue.placed.some)))
 
 -- ---- the queue for a letter
 module _ (s : Settings) (m : List ℕ) (j c : ℕ) (a : Addressed s m j c) where
   abbrev ws : List ℕ
-  ws = wordsFrom s (node s m j) c
+  ws = words_from s (node s m j) c
 
-  bound : isBound (tableIn m) (get_or ws destinationTaskWord 0) ≡ true
-  unfolding rightHeader
+  bound : is_bound (table_in m) (get_or ws destination_task_word 0) ≡ true
+  unfolding right_header
   bound =
-      let d = and-true (isBound (tableIn m) (get_or ws sourceTaskWord 0)) _ a.header in
-      let e = and-true (eqb (node_of (tableIn m) (get_or ws sourceTaskWord 0)) (get_or ws sourceNodeWord 0)) _ d.1 in
-      (and-true (isBound (tableIn m) (get_or ws destinationTaskWord 0)) _ e.1).0
+      let d = and-true (is_bound (table_in m) (get_or ws source_task_word 0)) _ a.header in
+      let e = and-true (eqb (node_of (table_in m) (get_or ws source_task_word 0)) (get_or ws source_node_word 0)) _ d.1 in
+      (and-true (is_bound (table_in m) (get_or ws destination_task_word 0)) _ e.1).0
 
-  pub queue-small : queueOf (tableIn m) (get_or ws destinationTaskWord 0) < 64
-  queue-small = (seat-below (tableIn m) (get_or ws destinationTaskWord 0) a.table bound).1
+  pub queue-small : queue_of (table_in m) (get_or ws destination_task_word 0) < 64
+  queue-small = (seat_below (table_in m) (get_or ws destination_task_word 0) a.table bound).1
 
-  module _ {task : ℕ} (et : task ≡ get_or ws destinationTaskWord 0) where
-    pub never-unbound : seatOf (tableIn m) task ≡ Unbound → ⊥
-    never-unbound e = let f = told-unbound (tableIn m) (get_or ws destinationTaskWord 0) (rw et at e) in false≢true (sym f ∙ bound)
+  module _ {task : ℕ} (et : task ≡ get_or ws destination_task_word 0) where
+    pub never_unbound : seat_of (table_in m) task ≡ Unbound → ⊥
+    never_unbound e = let f = told-unbound (table_in m) (get_or ws destination_task_word 0) (rw et at e) in false≢true (sym f ∙ bound)
 
-    module _ (i q : ℕ) (e : seatOf (tableIn m) task ≡ At i q) where
-      queue-is : q ≡ queueOf (tableIn m) (get_or ws destinationTaskWord 0)
-      queue-is = (told_at (tableIn m) (get_or ws destinationTaskWord 0) i q (rw et at e)).1.1
+    module _ (i q : ℕ) (e : seat_of (table_in m) task ≡ At i q) where
+      queue_is : q ≡ queue_of (table_in m) (get_or ws destination_task_word 0)
+      queue_is = (told_at (table_in m) (get_or ws destination_task_word 0) i q (rw et at e)).1.1
 
       pub seat-small : q < 64
-      seat-small = omega (arith, queue-is, queue-small)
+      seat-small = omega (arith, queue_is, queue-small)
 
-      pub seat-queue : {r : ℕ} → r ≡ taskAt s q → r ≡ queueFor s j m c
-      seat-queue f = f ∙ ap (taskAt s) queue-is
+      pub seat-queue : {r : ℕ} → r ≡ task_at s q → r ≡ queue_for s j m c
+      seat-queue f = f ∙ ap (task_at s) queue_is

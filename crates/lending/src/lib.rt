@@ -1,13 +1,13 @@
 // A node's stretch of the machine, lent to the functions on queues, blocks and letters.
 ghost use Rattle.std.specs.Prelude.{◌≡◌, ◌<◌, get_or};
-ghost use Rattle.layout.specs.Places.{node, withNode, room_at};
-ghost use Rattle.layout.specs.Numbers.{headerWords};
-ghost use Rattle.blocks.specs.Moves.{taken, takenAnswer, givenBack};
+ghost use Rattle.layout.specs.Places.{node, with_node, room_at};
+ghost use Rattle.layout.specs.Numbers.{header_words};
+ghost use Rattle.blocks.specs.Moves.{taken, taken_answer, given_back};
 ghost use Rattle.queues.specs.Queue.{items, item_at};
-ghost use Rattle.queues.specs.Moves.{counted, appended, appendAnswer, dropped};
-ghost use Rattle.gaps.specs.Close.{taskAppended, taskAnswer};
-ghost use Rattle.sound.specs.Letters.{toldLength, wordsFrom};
-ghost use Rattle.stages_keep.specs.Steps.{first_of, queueFor};
+ghost use Rattle.queues.specs.Moves.{counted, appended, append_answer, dropped};
+ghost use Rattle.gaps.specs.Close.{task_appended, task_answer};
+ghost use Rattle.sound.specs.Letters.{told_length, words_from};
+ghost use Rattle.stages_keep.specs.Steps.{first_of, queue_for};
 ghost use Rattle.lending.specs.Asked.{
   Lent,
   Begins,
@@ -27,8 +27,8 @@ use tasks::Seat;
 // Word k of the header of the letter that block b begins in node i.
 fn word_in(memory: &[u32], s: Settings, i: usize, b: u32, k: usize) -> u32
     requires begins { Begins s memory.now i b }
-    requires k_lt_header_words { k < headerWords }
-    ensures { result ≡ get_or (wordsFrom s (node s memory.now i) b) k 0 }
+    requires k_lt_header_words { k < header_words }
+    ensures { result ≡ get_or (words_from s (node s memory.now i) b) k 0 }
 {
     let a = layout::node_at(s, i);
     let e = a + layout::node_size(s);
@@ -38,7 +38,7 @@ fn word_in(memory: &[u32], s: Settings, i: usize, b: u32, k: usize) -> u32
 // The length that the letter begun by block b in node i tells.
 pub fn length_of(memory: &[u32], s: Settings, i: usize, b: u32) -> usize
     requires { Begins s memory.now i b }
-    ensures { result ≡ toldLength s (node s memory.now i) b }
+    ensures { result ≡ told_length s (node s memory.now i) b }
 {
     word_in(memory, s, i, b, 4) as usize
 }
@@ -72,7 +72,7 @@ pub fn append_in(
     item: u32,
 ) -> Appended
     requires { HasQueue s memory.old i k q }
-    ensures { (memory.new ≡ withNode s memory.old i (appended k (node s memory.old i) q item)) × (result ≡ appendAnswer k (node s memory.old i) q) }
+    ensures { (memory.new ≡ with_node s memory.old i (appended k (node s memory.old i) q item)) × (result ≡ append_answer k (node s memory.old i) q) }
 {
     let size = layout::node_size(s);
     let a = layout::node_at(s, i);
@@ -83,7 +83,7 @@ pub fn append_in(
 // Puts an item behind the last of the task queue at word q of node i, closing its gaps first.
 pub fn append_task(memory: &mut [u32], s: Settings, i: usize, q: usize, item: u32) -> Appended
     requires { HasTaskQueue s memory.old i q }
-    ensures { (memory.new ≡ withNode s memory.old i (taskAppended s (node s memory.old i) q item)) × (result ≡ taskAnswer s (node s memory.old i) q) }
+    ensures { (memory.new ≡ with_node s memory.old i (task_appended s (node s memory.old i) q item)) × (result ≡ task_answer s (node s memory.old i) q) }
 {
     let size = layout::node_size(s);
     let a = layout::node_at(s, i);
@@ -95,7 +95,7 @@ pub fn append_task(memory: &mut [u32], s: Settings, i: usize, q: usize, item: u3
 pub fn drop_in(memory: &mut [u32], s: Settings, i: usize, k: Kind, q: usize) -> u32
     requires has_queue { HasQueue s memory.old i k q }
     requires q_nonzero { 0 < items k (node s memory.old i) q }
-    ensures { (memory.new ≡ withNode s memory.old i (dropped k (node s memory.old i) q)) × (result ≡ item_at k (node s memory.old i) q 0) }
+    ensures { (memory.new ≡ with_node s memory.old i (dropped k (node s memory.old i) q)) × (result ≡ item_at k (node s memory.old i) q 0) }
 {
     let size = layout::node_size(s);
     let a = layout::node_at(s, i);
@@ -106,7 +106,7 @@ pub fn drop_in(memory: &mut [u32], s: Settings, i: usize, k: Kind, q: usize) -> 
 // Takes n blocks in node j.
 pub fn take_space(memory: &mut [u32], s: Settings, j: usize, n: usize) -> Taken
     requires { MayTake s memory.old j n }
-    ensures { (memory.new ≡ withNode s memory.old j (taken s (node s memory.old j) n)) × (result ≡ takenAnswer s (node s memory.old j) n) }
+    ensures { (memory.new ≡ with_node s memory.old j (taken s (node s memory.old j) n)) × (result ≡ taken_answer s (node s memory.old j) n) }
 {
     let size = layout::node_size(s);
     let a = layout::node_at(s, j);
@@ -117,7 +117,7 @@ pub fn take_space(memory: &mut [u32], s: Settings, j: usize, n: usize) -> Taken
 // Gives the chain of n blocks from b on back in node j.
 pub fn return_chain(memory: &mut [u32], s: Settings, j: usize, b: u32, n: usize)
     requires { MayReturn s memory.old j b n }
-    ensures { memory.new ≡ withNode s memory.old j (givenBack s (node s memory.old j) n b) }
+    ensures { memory.new ≡ with_node s memory.old j (given_back s (node s memory.old j) n b) }
 {
     let size = layout::node_size(s);
     let a = layout::node_at(s, j);
@@ -128,7 +128,7 @@ pub fn return_chain(memory: &mut [u32], s: Settings, j: usize, b: u32, n: usize)
 // Node j's room count rises.
 pub fn count_room(memory: &mut [u32], s: Settings, j: usize)
     requires { Lent s memory.old j }
-    ensures { memory.new ≡ withNode s memory.old j (counted (node s memory.old j) room_at) }
+    ensures { memory.new ≡ with_node s memory.old j (counted (node s memory.old j) room_at) }
 {
     let size = layout::node_size(s);
     let a = layout::node_at(s, j);
@@ -139,7 +139,7 @@ pub fn count_room(memory: &mut [u32], s: Settings, j: usize)
 // The task queue in node j for the letter that block c begins there.
 pub fn queue_for(memory: &[u32], s: Settings, j: usize, c: u32) -> usize
     requires { Addressed s memory.now j c }
-    ensures { result ≡ queueFor s j memory.now c }
+    ensures { result ≡ queue_for s j memory.now c }
 {
     let task = word_in(memory, s, j, c, 2);
     let Seat::At(_, q) = tasks::seat_of(&memory[24..536], task) else {

@@ -4,9 +4,9 @@ use mathlib.Core.List.{List, [], ◌∷◌, ◌++◌}
 use Prim.Native.Nat.{ℕ, zero, suc, ◌+◌, ◌-◌}
 use lib.ListN.{length, take, drop, replicate}
 use Rattle.settings.specs.declared.Settings.{Settings}
-use Rattle.layout.specs.Places.{blocksAt, block_at, nodeSize}
+use Rattle.layout.specs.Places.{blocks_at, block_at, node_size}
 use Rattle.blocks.specs.Chain.{needs, chain, after, list, free, text}
-use Rattle.blocks.specs.Moves.{enough, taken, takenFrom, takenAnswer, givenBack}
+use Rattle.blocks.specs.Moves.{enough, taken, taken_from, taken_answer, given_back}
 use Rattle.blocks.specs.declared.Taken.{Taken}
 use Rattle.blocks.specs.declared.Taken.TheVariants.{First, Short}
 use Rattle.letters.specs.Letter.{word, told, letter, laid, written}
@@ -50,13 +50,13 @@ seen B n =
     let new = written s node 3 (sample n) in
     record {
       blocks = k;
-      answer = takenAnswer s (fresh B) k;
+      answer = taken_answer s (fresh B) k;
       taken = chain s node k 3;
       left = free s node;
       read = letter s new n 3;
       told = told s new 3;
       behind = drop n (text s new (chain s new k 3));
-      back = free s (givenBack s new k 3);
+      back = free s (given_back s new k 3);
     }
 
 -- what is to be seen: the first k of the free list taken, the letter and its length read back, the words behind it and the free list as they were
@@ -74,24 +74,24 @@ expected n k behind = record {
 
 -- B = 4: the length word stands in the second block
 pub four : (seen 4 5 ≡ expected 5 2 1) × (seen 4 6 ≡ expected 6 2 0) × (seen 4 7 ≡ expected 7 3 2) × (seen 4 8 ≡ expected 8 3 1) × (seen 4 15 ≡ expected 15 5 0)
-unfolding needs chain after list text enough taken takenFrom takenAnswer givenBack word letter laid blocksAt block_at
+unfolding needs chain after list text enough taken taken_from taken_answer given_back word letter laid blocks_at block_at
 four = (refl, refl, refl, refl, refl)
 
 -- B = 5: there too
 pub five : (seen 5 5 ≡ expected 5 2 3) × (seen 5 6 ≡ expected 6 2 2) × (seen 5 7 ≡ expected 7 2 1) × (seen 5 8 ≡ expected 8 2 0) × (seen 5 15 ≡ expected 15 4 1)
-unfolding needs chain after list text enough taken takenFrom takenAnswer givenBack word letter laid blocksAt block_at
+unfolding needs chain after list text enough taken taken_from taken_answer given_back word letter laid blocks_at block_at
 five = (refl, refl, refl, refl, refl)
 
 pub eight : (seen 8 5 ≡ expected 5 1 2) × (seen 8 6 ≡ expected 6 1 1) × (seen 8 7 ≡ expected 7 1 0) × (seen 8 8 ≡ expected 8 2 6) × (seen 8 15 ≡ expected 15 3 6)
-unfolding needs chain after list text enough taken takenFrom takenAnswer givenBack word letter laid blocksAt block_at
+unfolding needs chain after list text enough taken taken_from taken_answer given_back word letter laid blocks_at block_at
 eight = (refl, refl, refl, refl, refl)
 
 -- the stretches are as long as the settings say
-pub long : (length (fresh 4) ≡ nodeSize (with 4)) × (length (fresh 5) ≡ nodeSize (with 5)) × (length (fresh 8) ≡ nodeSize (with 8))
-unfolding nodeSize
+pub long : (length (fresh 4) ≡ node_size (with 4)) × (length (fresh 5) ≡ node_size (with 5)) × (length (fresh 8) ≡ node_size (with 8))
+unfolding node_size
 long = (refl, refl, refl)
 
 -- seven blocks of the six are too many: nothing changes
-pub short : (takenAnswer (with 4) (fresh 4) 7 ≡ Short) × (taken (with 4) (fresh 4) 7 ≡ fresh 4)
-unfolding enough taken takenAnswer list blocksAt block_at
+pub short : (taken_answer (with 4) (fresh 4) 7 ≡ Short) × (taken (with 4) (fresh 4) 7 ≡ fresh 4)
+unfolding enough taken taken_answer list blocks_at block_at
 short = (refl, refl)

@@ -17,9 +17,9 @@ use Rattle.blocks.specs.Asked.{Block, Walks}
 use Rattle.blocks.proofs.Steps.{down}
 use Rattle.letters.specs.declared.Header.{Header}
 use Rattle.letters.specs.Letter.{onto, letter, piece, laid, written}
-use Rattle.letters.specs.Made.{letterOf}
+use Rattle.letters.specs.Made.{letter_of}
 use Rattle.letters.specs.Asked.{Lies, Carries}
-use Rattle.letters.proofs.Steps.{Covers, Stepped, head-block, skip-text, piece-text, piece-carried, covers-skip, covers-rest, covers-lies, letter-part, laid_none, walks-laid, laid-step}
+use Rattle.letters.proofs.Steps.{Covers, Stepped, head_block, skip_text, piece-text, piece-carried, covers_skip, covers_rest, covers_lies, letter-part, laid_none, walks-laid, laid_step}
 
 -- ---- reading under way: `done` words stand in out, and those from word `skip` on of the `owed` blocks from `block` on are still to be read
 pub record Reading (s : Settings) (node : List ℕ) (b at : ℕ) (out₀ out : List ℕ) (block skip done : ℕ) : Type 0 where
@@ -29,20 +29,20 @@ pub record Reading (s : Settings) (node : List ℕ) (b at : ℕ) (out₀ out : L
   pub covers : Covers s node owed block (skip + (length out₀ - done))
   pub is : take done out ++ take (length out₀ - done) (drop skip (text s node (chain s node owed block))) ≡ drop at (letter s node (at + length out₀) b)
 
-pub read-starts : (s : Settings) (node : List ℕ) (b at : ℕ) (out : List ℕ) → Lies s node (at + length out) b → Reading s node b at out out b at 0
-read-starts s node b at out l =
+pub read_starts : (s : Settings) (node : List ℕ) (b at : ℕ) (out : List ℕ) → Lies s node (at + length out) b → Reading s node b at out out b at 0
+read_starts s node b at out l =
     let z : length out - 0 ≡ length out = omega arith in
     record {
       owed = needs s (at + length out);
       long = refl;
       within = omega arith;
-      covers = rw z (covers-lies s node (at + length out) b (needs s (at + length out)) l refl);
+      covers = rw z (covers_lies s node (at + length out) b (needs s (at + length out)) l refl);
       is = rw z (letter-part s node at (length out) b);
     }
 
 module _ (s : Settings) (node : List ℕ) (b at : ℕ) (out₀ out : List ℕ) (block skip done : ℕ) (r : Reading s node b at out₀ out block skip done) where
-  pub read-ends : length out₀ ≤ done → out ≡ drop at (letter s node (at + length out₀) b)
-  read-ends h =
+  pub read_ends : length out₀ ≤ done → out ≡ drop at (letter s node (at + length out₀) b)
+  read_ends h =
       let w = r.within in
       let l = r.long in
       let z : length out₀ - done ≡ 0 = omega arith in
@@ -57,27 +57,27 @@ module _ (s : Settings) (node : List ℕ) (b at : ℕ) (out₀ out : List ℕ) (
     passed : k ≡ 0 → s.b - 1 ≤ skip
     passed e = let w = q.some in let c = q.carries in omega arith
 
-    pub read-passes : k ≡ 0 → (s.b - 1 ≤ skip) × Reading s node b at out₀ out next (skip - (s.b - 1)) done
-    read-passes e =
+    pub read_passes : k ≡ 0 → (s.b - 1 ≤ skip) × Reading s node b at out₀ out next (skip - (s.b - 1)) done
+    read_passes e =
         let h = passed e in (
           h,
           record {
             owed = r.owed - 1;
             long = r.long;
             within = r.within;
-            covers = covers-skip s node r.owed block r.covers.walks q.owes skip left next r.covers.room q.follows h;
+            covers = covers_skip s node r.owed block r.covers.walks q.owes skip left next r.covers.room q.follows h;
             is = ap (λ (x : ℕ). take done out ++ take left (drop (skip - (s.b - 1)) (text s node (chain s node (r.owed - 1) x)))) q.follows
-                ∙ ap (λ (l : List ℕ). take done out ++ take left l) (sym (skip-text s node r.owed block r.covers.walks q.owes skip h))
+                ∙ ap (λ (l : List ℕ). take done out ++ take left l) (sym (skip_text s node r.owed block r.covers.walks q.owes skip h))
                 ∙ r.is;
           },
         )
 
     -- what the block carries of them is read
     module _ (some : k ≡ 0 → ⊥) where
-      pub read-inside : Carries s node block skip
-      read-inside =
+      pub read_inside : Carries s node block skip
+      read_inside =
           let c = q.carries in
-          record { block = head-block s node r.owed block r.covers.walks q.owes; inside = omega arith }
+          record { block = head_block s node r.owed block r.covers.walks q.owes; inside = omega arith }
 
       abbrev held : List ℕ
       held = part out done (length out₀)
@@ -86,7 +86,7 @@ module _ (s : Settings) (node : List ℕ) (b at : ℕ) (out₀ out : List ℕ) (
       got = piece s node block skip left
 
       got-long : k ≡ length got
-      got-long = piece-carried s node r.owed block r.covers.walks q.owes skip left k read-inside.inside q.carries
+      got-long = piece-carried s node r.owed block r.covers.walks q.owes skip left k read_inside.inside q.carries
 
       got-within : done + k ≤ length out₀
       got-within = let w = r.within in let c = q.carries in omega arith
@@ -95,16 +95,16 @@ module _ (s : Settings) (node : List ℕ) (b at : ℕ) (out₀ out : List ℕ) (
       held-long = let l = r.long in length_part out done (length out₀) r.within (omega arith)
 
       module _ (p : List ℕ) (e : p ≡ onto (piece s node block skip (length (part out done (length out₀)))) (part out done (length out₀))) where
-        p-is : p ≡ got ++ drop k held
+        p_is : p ≡ got ++ drop k held
         unfolding onto
-        p-is = e ∙ ap (λ (i : ℕ). piece s node block skip i ++ drop (length (piece s node block skip i)) held) held-long ∙ ap (λ (i : ℕ). got ++ drop i held) (sym got-long)
+        p_is = e ∙ ap (λ (i : ℕ). piece s node block skip i ++ drop (length (piece s node block skip i)) held) held-long ∙ ap (λ (i : ℕ). got ++ drop i held) (sym got-long)
 
-        p-long : length p ≡ left
-        p-long =
+        p_long : length p ≡ left
+        p_long =
             let g = got-long in
             let h = held-long in
             let c = q.carries in
-            ap length p-is ∙ length-append got (drop k held) ∙ rw length-drop (omega arith)
+            ap length p_is ∙ length-append got (drop k held) ∙ rw length-drop (omega arith)
 
         abbrev new : List ℕ
         new = put_mid done (length out₀ - done) out p
@@ -112,12 +112,12 @@ module _ (s : Settings) (node : List ℕ) (b at : ℕ) (out₀ out : List ℕ) (
         new_is : new ≡ splice out done (length out₀) p
         new_is = back done (length out₀) out {p = p} r.within refl
 
-        new-front : take (done + k) new ≡ take done out ++ got
-        new-front =
+        new_front : take (done + k) new ≡ take done out ++ got
+        new_front =
             let g = got-long in
             let l = r.long in
             let w = r.within in
-            ap (take (done + k)) (new_is ∙ ap (λ (z : List ℕ). take done out ++ (z ++ drop (length out₀) out)) p-is)
+            ap (take (done + k)) (new_is ∙ ap (λ (z : List ℕ). take done out ++ (z ++ drop (length out₀) out)) p_is)
             ∙ ap (take (done + k)) (simp append_assoc)
             ∙ take_at (take done out ++ got) (drop k held ++ drop (length out₀) out) (done + k) (length-append (take done out) got ∙ rw (length-take-le done out (omega arith)) (omega arith))
 
@@ -130,13 +130,13 @@ module _ (s : Settings) (node : List ℕ) (b at : ℕ) (out₀ out : List ℕ) (
             let z : length out₀ - (done + k) ≡ left - k = sub-add-eq (length out₀) done k in
             record {
               owed = r.owed - 1;
-              long = ap length new_is ∙ length-splice out done (length out₀) w (omega arith) p p-long ∙ l;
+              long = ap length new_is ∙ length-splice out done (length out₀) w (omega arith) p p_long ∙ l;
               within = got-within;
-              covers = rw z (covers-rest s node r.owed block r.covers.walks q.owes skip left next r.covers.room q.follows k read-inside.inside c);
-              is = ap₂ (λ (u : List ℕ) (i : ℕ). u ++ take i (text s node (chain s node (r.owed - 1) next))) new-front z
+              covers = rw z (covers_rest s node r.owed block r.covers.walks q.owes skip left next r.covers.room q.follows k read_inside.inside c);
+              is = ap₂ (λ (u : List ℕ) (i : ℕ). u ++ take i (text s node (chain s node (r.owed - 1) next))) new_front z
                   ∙ ap₂ (λ (i x : ℕ). (take done out ++ got) ++ take (left - i) (text s node (chain s node (r.owed - 1) x))) g q.follows
                   ∙ append_assoc (take done out) got (take (left - length got) (text s node (chain s node (r.owed - 1) (link s node block))))
-                  ∙ ap (λ (u : List ℕ). take done out ++ u) (sym (piece-text s node r.owed block r.covers.walks q.owes skip left read-inside.inside))
+                  ∙ ap (λ (u : List ℕ). take done out ++ u) (sym (piece-text s node r.owed block r.covers.walks q.owes skip left read_inside.inside))
                   ∙ r.is;
             }
 
@@ -152,34 +152,34 @@ sets_more p l a k h =
 
 -- ---- the words of a letter that is made anew
 module _ (h : Header) (body : List ℕ) where
-  pub made-long : length (letterOf h body) ≡ 5 + length body
-  unfolding letterOf
-  made-long = omega arith
+  pub made_long : length (letter_of h body) ≡ 5 + length body
+  unfolding letter_of
+  made_long = omega arith
 
-  pub needs-made : (s : Settings) → needs s (5 + length body) ≡ needs s (length (letterOf h body))
-  needs-made s = ap (needs s) (sym made-long)
+  pub needs_made : (s : Settings) → needs s (5 + length body) ≡ needs s (length (letter_of h body))
+  needs_made s = ap (needs s) (sym made_long)
 
-  pub made-body : (k : ℕ) → 5 ≤ k → get_or body (k - 5) 0 ≡ get_or (letterOf h body) k 0
-  unfolding letterOf
-  made-body k e = let q : k ≡ suc (suc (suc (suc (suc (k - 5))))) = omega arith in sym (ap (λ (i : ℕ). get_or (letterOf h body) i 0) q)
+  pub made_body : (k : ℕ) → 5 ≤ k → get_or body (k - 5) 0 ≡ get_or (letter_of h body) k 0
+  unfolding letter_of
+  made_body k e = let q : k ≡ suc (suc (suc (suc (suc (k - 5))))) = omega arith in sym (ap (λ (i : ℕ). get_or (letter_of h body) i 0) q)
 
 -- the words of a made letter from word k on, laid into a block one by one
 module _ (h : Header) (body : List ℕ) (k n room : ℕ) (en : n ≡ min (5 + length body - k) room) where
   abbrev ws : List ℕ
-  ws = drop k (letterOf h body)
+  ws = drop k (letter_of h body)
 
-  ws-long : length ws ≡ 5 + length body - k
-  ws-long = length-drop k (letterOf h body) ∙ ap (λ (i : ℕ). i - k) (made-long h body)
+  ws_long : length ws ≡ 5 + length body - k
+  ws_long = length-drop k (letter_of h body) ∙ ap (λ (i : ℕ). i - k) (made_long h body)
 
-  pub block_more : (node l : List ℕ) (a i x : ℕ) → i < n → l ≡ sets node a (take i (drop k (letterOf h body))) → x ≡ get_or (letterOf h body) (k + i) 0
-      → set l (a + i) x ≡ sets node a (take (i + 1) (drop k (letterOf h body)))
+  pub block_more : (node l : List ℕ) (a i x : ℕ) → i < n → l ≡ sets node a (take i (drop k (letter_of h body))) → x ≡ get_or (letter_of h body) (k + i) 0
+      → set l (a + i) x ≡ sets node a (take (i + 1) (drop k (letter_of h body)))
   block_more node l a i x lt e q =
-      ap₂ (λ (m : List ℕ) (v : ℕ). set m (a + i) v) e (q ∙ sym (get_or-drop k (letterOf h body) i 0))
-      ∙ sets_more ws node a i (rw ws-long (omega arith))
+      ap₂ (λ (m : List ℕ) (v : ℕ). set m (a + i) v) e (q ∙ sym (get_or-drop k (letter_of h body) i 0))
+      ∙ sets_more ws node a i (rw ws_long (omega arith))
 
-  pub block-all : (node l : List ℕ) (a place i : ℕ) → a ≡ place → i ≡ n → l ≡ sets node a (take i (drop k (letterOf h body))) → l ≡ sets node place (take room (drop k (letterOf h body)))
-  block-all node l a place i ea ei e =
-      e ∙ ap₂ (λ (z j : ℕ). sets node z (take j ws)) ea (ei ∙ en ∙ ap (λ (j : ℕ). min j room) (sym ws-long))
+  pub block_all : (node l : List ℕ) (a place i : ℕ) → a ≡ place → i ≡ n → l ≡ sets node a (take i (drop k (letter_of h body))) → l ≡ sets node place (take room (drop k (letter_of h body)))
+  block_all node l a place i ea ei e =
+      e ∙ ap₂ (λ (z j : ℕ). sets node z (take j ws)) ea (ei ∙ en ∙ ap (λ (j : ℕ). min j room) (sym ws_long))
       ∙ ap (sets node place) (sym (take-least (length ws) room ws) ∙ take_all (length ws) (take room ws) (rw length-take (omega arith)))
 
 -- ---- writing under way: the words from word k on are still to be laid into the `owed` blocks from `block` on
@@ -189,21 +189,21 @@ pub record Writing (s : Settings) (node₀ : List ℕ) (b : ℕ) (ws node : List
   pub room : k + owed * (s.b - 1) ≤ length ws + (s.b - 2)
   pub is : laid s node owed block (drop k ws) ≡ written s node₀ b ws
 
-pub write-starts : (s : Settings) (node : List ℕ) (b : ℕ) (ws : List ℕ) (owed : ℕ) → Lies s node (length ws) b → owed ≡ needs s (length ws) → Writing s node b ws node owed b 0
+pub write_starts : (s : Settings) (node : List ℕ) (b : ℕ) (ws : List ℕ) (owed : ℕ) → Lies s node (length ws) b → owed ≡ needs s (length ws) → Writing s node b ws node owed b 0
 unfolding needs
-write-starts s node b ws owed l e =
+write_starts s node b ws owed l e =
     rw e (record { long = refl; walks = l.walks; room = omega (arith, div-add-mod (length ws + (s.b - 2)) (s.b - 1)); is = refl })
 
 module _ (s : Settings) (node₀ : List ℕ) (b : ℕ) (ws node : List ℕ) (owed block k : ℕ) (w : Writing s node₀ b ws node owed block k) where
-  pub write-ends : owed ≡ 0 → node ≡ written s node₀ b ws
-  write-ends e = sym (laid_none s node owed block w.walks (drop k ws) e) ∙ w.is
+  pub write_ends : owed ≡ 0 → node ≡ written s node₀ b ws
+  write_ends e = sym (laid_none s node owed block w.walks (drop k ws) e) ∙ w.is
 
   module _ (some : 1 ≤ owed) where
-    pub write-inside : (Block s node block) × (k < length ws)
-    write-inside =
+    pub write_inside : (Block s node block) × (k < length ws)
+    write_inside =
         let r = w.walks.stretch.range.b.low in
         let m = w.room in
-        (head-block s node owed block w.walks some, omega (arith, suc-mul (owed - 1) (s.b - 1), ap (λ (i : ℕ). i * (s.b - 1)) (down owed some)))
+        (head_block s node owed block w.walks some, omega (arith, suc-mul (owed - 1) (s.b - 1), ap (λ (i : ℕ). i * (s.b - 1)) (down owed some)))
 
     pub write_goes : (next : ℕ) (mid : List ℕ) → next ≡ link s node block → mid ≡ sets node (block_at s block) (take (s.b - 1) (drop k ws))
         → Writing s node₀ b ws mid (owed - 1) next (k + (s.b - 1))
@@ -214,6 +214,6 @@ module _ (s : Settings) (node₀ : List ℕ) (b : ℕ) (ws node : List ℕ) (owe
           walks = walks-laid s node owed block w.walks (drop k ws) some next mid el em;
           room = omega (arith, suc-mul (owed - 1) (s.b - 1), ap (λ (i : ℕ). i * (s.b - 1)) (down owed some));
           is = ap (laid s mid (owed - 1) next) (sym (drop-drop (s.b - 1) k ws))
-              ∙ laid-step s node owed block w.walks (drop k ws) some next mid el em
+              ∙ laid_step s node owed block w.walks (drop k ws) some next mid el em
               ∙ w.is;
         }

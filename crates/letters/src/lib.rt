@@ -2,10 +2,10 @@
 ghost use Rattle.std.specs.Prelude.{◌≡◌, ◌+◌, ◌-◌, min, length, get_or, take, drop};
 ghost use Rattle.std.proofs.lemmas.List.Edits.{sets};
 ghost use Rattle.layout.specs.Places.{block_at};
-ghost use Rattle.layout.specs.Numbers.{headerWords};
+ghost use Rattle.layout.specs.Numbers.{header_words};
 ghost use Rattle.blocks.specs.Asked.{Block};
 ghost use Rattle.letters.specs.Letter.{onto, word, told, letter, piece, written};
-ghost use Rattle.letters.specs.Made.{letterOf};
+ghost use Rattle.letters.specs.Made.{letter_of};
 ghost use Rattle.letters.specs.Asked.{Lies, Carries, HasWord};
 
 use reading::Step;
@@ -24,7 +24,7 @@ pub fn word_of(node: &[u32], s: Settings, b: u32, k: usize) -> u32
 
 // The length that the header tells, of the letter that block b begins.
 pub fn told_length(node: &[u32], s: Settings, b: u32) -> u32
-    requires { Lies s node.now headerWords b }
+    requires { Lies s node.now header_words b }
     ensures { result ≡ told s node.now b }
 {
     word_of(node, s, b, 4)
@@ -96,7 +96,7 @@ pub struct Header {
 // Word k of a letter: the header's five, then the body's.
 fn letter_word(h: Header, body: &[u32], k: usize) -> u32
     requires { HasWord (length body.now) k }
-    ensures { result ≡ get_or (letterOf h body.now) k 0 }
+    ensures { result ≡ get_or (letter_of h body.now) k 0 }
 {
     match k {
         0 => h.source,
@@ -112,7 +112,7 @@ fn letter_word(h: Header, body: &[u32], k: usize) -> u32
 fn write_block(node: &mut [u32], s: Settings, b: u32, h: Header, body: &[u32], k: usize)
     requires block { Block s node.old b }
     requires has_word { HasWord (length body.now) k }
-    ensures { node.new ≡ sets node.old (block_at s b) (take (s.b - 1) (drop k (letterOf h body.now))) }
+    ensures { node.new ≡ sets node.old (block_at s b) (take (s.b - 1) (drop k (letter_of h body.now))) }
 {
     let left = 5 + body.len() - k;
     let n = fewer(left, s.b - 1);
@@ -126,8 +126,8 @@ fn write_block(node: &mut [u32], s: Settings, b: u32, h: Header, body: &[u32], k
 
 // Writes a letter into the chain that block b begins.
 pub fn write(node: &mut [u32], s: Settings, b: u32, h: Header, body: &[u32])
-    requires { Lies s node.old (headerWords + length body.now) b }
-    ensures { node.new ≡ written s node.old b (letterOf h body.now) }
+    requires { Lies s node.old (header_words + length body.now) b }
+    ensures { node.new ≡ written s node.old b (letter_of h body.now) }
 {
     let mut owed = blocks::needs_of(s, 5 + body.len());
     let mut block = b;

@@ -7,10 +7,10 @@ use Prim.Native.Nat.{ℕ, ◌+◌, ◌≤◌, ◌<◌}
 use native.Mathlib.Omega.{arith}
 use lib.Dec.{eqb}
 use lib.ListN.{length, get_or, set, length-set, get_or-eq_default}
-use lib.Seq.{get_or-set_same, get_or-set_other}
-use Rattle.words.proofs.Lists.{same?, le-or-lt}
+use lib.Seq.{get_or-set_same, get_or_set_other}
+use Rattle.words.proofs.Lists.{same?, le_or_lt}
 use Rattle.showing.specs.declared.Shown.{Shown}
-use Rattle.listing.specs.Asked.{laidAt, Rows, placed, Low}
+use Rattle.listing.specs.Asked.{laid_at, Rows, placed, Low}
 use Rattle.listing.proofs.Laying.{length_at}
 
 abbrev pub rows : List ℕ → List ℕ → Rows
@@ -18,19 +18,19 @@ rows ranks out = record { ranks = ranks; out = out }
 
 -- one letter placed
 abbrev pub place : Shown → Rows → Rows
-place x r = rows (set r.ranks x.destination (get_or r.ranks x.destination 0 + 1)) (laidAt x (get_or r.ranks x.destination 0) r.out)
+place x r = rows (set r.ranks x.destination (get_or r.ranks x.destination 0 + 1)) (laid_at x (get_or r.ranks x.destination 0) r.out)
 
 -- of the letters those for task t, in their order
-abbrev pub forTask : ℕ → List Shown → List Shown
-forTask t [] = []
-forTask t (x ∷ xs) = cond (eqb x.destination t) (x ∷ forTask t xs) (forTask t xs)
+abbrev pub for_task : ℕ → List Shown → List Shown
+for_task t [] = []
+for_task t (x ∷ xs) = cond (eqb x.destination t) (x ∷ for_task t xs) (for_task t xs)
 
-pub for-append : (t : ℕ) (xs ys : List Shown) → forTask t (xs ++ ys) ≡ forTask t xs ++ forTask t ys
-for-append t [] ys = refl
-for-append t (x ∷ xs) ys =
+pub for_append : (t : ℕ) (xs ys : List Shown) → for_task t (xs ++ ys) ≡ for_task t xs ++ for_task t ys
+for_append t [] ys = refl
+for_append t (x ∷ xs) ys =
     same? x.destination t
-    (λ q e. rw e (ap (λ (l : List Shown). x ∷ l) (for-append t xs ys)))
-    (λ q e. rw e (for-append t xs ys))
+    (λ q e. rw e (ap (λ (l : List Shown). x ∷ l) (for_append t xs ys)))
+    (λ q e. rw e (for_append t xs ys))
 
 placed-append : (xs ys : List Shown) (r : Rows) → placed (xs ++ ys) r ≡ placed ys (placed xs r)
 unfolding placed
@@ -47,23 +47,23 @@ unfolding placed
 length-ranks [] r = refl
 length-ranks (x ∷ xs) r = length-ranks xs _ ∙ length-set r.ranks x.destination _
 
-bump-own : (l : List ℕ) (d t : ℕ) → d ≡ t → t < length l → get_or (set l d (get_or l d 0 + 1)) t 0 ≡ get_or l t 0 + 1
-bump-own l d t q h = rw q (get_or-set_same l t (get_or l t 0 + 1) 0 h)
+bump_own : (l : List ℕ) (d t : ℕ) → d ≡ t → t < length l → get_or (set l d (get_or l d 0 + 1)) t 0 ≡ get_or l t 0 + 1
+bump_own l d t q h = rw q (get_or-set_same l t (get_or l t 0 + 1) 0 h)
 
-pub length-for : (t : ℕ) (xs : List Shown) → length (forTask t xs) ≤ length xs
-length-for t [] = omega arith
-length-for t (x ∷ xs) = same? x.destination t (λ q e. rw e (omega (arith, length-for t xs))) (λ q e. rw e (omega (arith, length-for t xs)))
+pub length_for : (t : ℕ) (xs : List Shown) → length (for_task t xs) ≤ length xs
+length_for t [] = omega arith
+length_for t (x ∷ xs) = same? x.destination t (λ q e. rw e (omega (arith, length_for t xs))) (λ q e. rw e (omega (arith, length_for t xs)))
 
 -- a rank rises by the number of letters for its task
-rank-placed : (xs : List Shown) (r : Rows) (t : ℕ) → t < length r.ranks → get_or (placed xs r).ranks t 0 ≡ get_or r.ranks t 0 + length (forTask t xs)
+rank_placed : (xs : List Shown) (r : Rows) (t : ℕ) → t < length r.ranks → get_or (placed xs r).ranks t 0 ≡ get_or r.ranks t 0 + length (for_task t xs)
 unfolding placed
-rank-placed [] r t h = omega arith
-rank-placed (x ∷ xs) r t h =
+rank_placed [] r t h = omega arith
+rank_placed (x ∷ xs) r t h =
     let g : t < length (set r.ranks x.destination (get_or r.ranks x.destination 0 + 1)) = rw (length-set r.ranks x.destination (get_or r.ranks x.destination 0 + 1)) h in
-    let a = rank-placed xs (place x r) t g in
+    let a = rank_placed xs (place x r) t g in
     same? x.destination t
-    (λ q e. rw e (omega (arith, a, bump-own r.ranks x.destination t q h)))
-    (λ q e. rw e (omega (arith, a, get_or-set_other r.ranks x.destination t (get_or r.ranks x.destination 0 + 1) 0 (λ z. q (sym z)))))
+    (λ q e. rw e (omega (arith, a, bump_own r.ranks x.destination t q h)))
+    (λ q e. rw e (omega (arith, a, get_or_set_other r.ranks x.destination t (get_or r.ranks x.destination 0 + 1) 0 (λ z. q (sym z)))))
 
 -- ---- what is placed so far
 length-out : (xs : List Shown) (r : Rows) → length (placed xs r).out ≡ length r.out
@@ -72,21 +72,21 @@ length-out [] r = refl
 length-out (x ∷ xs) r = length-out xs (place x r) ∙ length_at x (get_or r.ranks x.destination 0) r.out
 
 module _ (xs : List Shown) (ranks₀ out₀ ranks out : List ℕ) (e : rows ranks out ≡ placed xs (rows ranks₀ out₀)) where
-  pub so-long : length out ≡ length out₀
-  so-long = ap (λ (r : Rows). length r.out) e ∙ length-out xs (rows ranks₀ out₀)
+  pub so_long : length out ≡ length out₀
+  so_long = ap (λ (r : Rows). length r.out) e ∙ length-out xs (rows ranks₀ out₀)
 
-  pub so-ranked : length ranks ≡ length ranks₀
-  so-ranked = ap (λ (r : Rows). length r.ranks) e ∙ length-ranks xs (rows ranks₀ out₀)
+  pub so_ranked : length ranks ≡ length ranks₀
+  so_ranked = ap (λ (r : Rows). length r.ranks) e ∙ length-ranks xs (rows ranks₀ out₀)
 
-  pub so-rank : (t : ℕ) → t < length ranks₀ → get_or ranks t 0 ≡ get_or ranks₀ t 0 + length (forTask t xs)
-  so-rank t h = ap (λ (r : Rows). get_or r.ranks t 0) e ∙ rank-placed xs (rows ranks₀ out₀) t h
+  pub so_rank : (t : ℕ) → t < length ranks₀ → get_or ranks t 0 ≡ get_or ranks₀ t 0 + length (for_task t xs)
+  so_rank t h = ap (λ (r : Rows). get_or r.ranks t 0) e ∙ rank_placed xs (rows ranks₀ out₀) t h
 
-  pub so-low : (n more : ℕ) → Low ranks₀ n → length xs + more ≤ n → Low ranks more
-  so-low n more l h = record { long = so-ranked ∙ l.long; few = few }
+  pub so_low : (n more : ℕ) → Low ranks₀ n → length xs + more ≤ n → Low ranks more
+  so_low n more l h = record { long = so_ranked ∙ l.long; few = few }
     where
       few : (t : ℕ) → get_or ranks t 0 + more ≤ 4294967295
       few t =
           ⊎_elim
-          (λ g. omega (arith, l.few t, get_or-eq_default ranks 0 {n = t} (rw so-ranked g)))
-          (λ g. omega (arith, l.few t, so-rank t g, length-for t xs))
-          (le-or-lt (length ranks₀) t)
+          (λ g. omega (arith, l.few t, get_or-eq_default ranks 0 {n = t} (rw so_ranked g)))
+          (λ g. omega (arith, l.few t, so_rank t g, length_for t xs))
+          (le_or_lt (length ranks₀) t)

@@ -1,21 +1,21 @@
 -- What list answers and leaves, for any memory and out: 'List', 'What comes back'. It changes no memory.
 use Rattle.std.specs.Prelude.{cond, List, ℕ, ◌*◌, leb, length}
-use Rattle.layout.specs.Numbers.{listWords}
+use Rattle.layout.specs.Numbers.{list_words}
 use Rattle.letters.specs.Letter.{onto}
-use Rattle.sound.specs.Reading.{settingsIn}
+use Rattle.sound.specs.Reading.{settings_in}
 use Rattle.sound.specs.Sound.{sound}
 use Rattle.answers.specs.declared.Answer.{Answer}
-use Rattle.answers.specs.Numbers.{bare, done, notSound, outShorterThanList}
+use Rattle.answers.specs.Numbers.{bare, done, not_sound, out_shorter_than_list}
 use Rattle.showing.specs.declared.Shown.{Shown}
-use Rattle.showing.specs.List.{listed, laidOut}
+use Rattle.showing.specs.List.{listed, laid_out}
 use Rattle.listing.specs.declared.Listed.{Listed}
 use Rattle.listing.specs.declared.Listed.TheVariants.{Done, NotSound, OutTooShort}
 
 -- the document's number and values for each case: 'list answers the number of letters, also with 11'
 abbrev pub told : Listed → Answer
 told (Done letters) = record { number = done; first = letters; second = 0; third = 0 }
-told NotSound = bare notSound
-told (OutTooShort letters) = record { number = outShorterThanList; first = letters; second = 0; third = 0 }
+told NotSound = bare not_sound
+told (OutTooShort letters) = record { number = out_shorter_than_list; first = letters; second = 0; third = 0 }
 
 -- what a list answers, and out after it
 pub record Outcome : Type 0 where
@@ -24,13 +24,13 @@ pub record Outcome : Type 0 where
 
 module _ (memory out : List ℕ) where
   abbrev pub letters : List Shown
-  letters = listed (settingsIn memory) memory
+  letters = listed (settings_in memory) memory
 
   -- 'list 1, 11'; 'the rest of out stays'
   unfoldable pub list : Outcome
   list =
       cond (sound memory)
-      (cond (leb (length letters * listWords) (length out))
-      (record { answer = Done (length letters); out = onto (laidOut letters) out })
+      (cond (leb (length letters * list_words) (length out))
+      (record { answer = Done (length letters); out = onto (laid_out letters) out })
       (record { answer = OutTooShort (length letters); out = out }))
       (record { answer = NotSound; out = out })

@@ -1,12 +1,12 @@
 // List: the call that shows every letter on its way.
 ghost use Rattle.std.specs.Prelude.{◌≡◌, true, [], ◌∷◌, ◌*◌, ◌+◌, ◌≤◌, ◌<◌, length};
 ghost use Rattle.words.specs.Count.{sum};
-ghost use Rattle.layout.specs.Places.{nodes, taskIds, taskQueues};
+ghost use Rattle.layout.specs.Places.{nodes, task_ids, task_queues};
 ghost use Rattle.queues.specs.Items.{live};
-ghost use Rattle.sound.specs.Reading.{taskItems};
+ghost use Rattle.sound.specs.Reading.{task_items};
 ghost use Rattle.sound.specs.Sound.{sound};
-ghost use Rattle.showing.specs.List.{fromTask, waiting};
-ghost use Rattle.listing.specs.Asked.{Asked, laidAt, placed, Low, keptOf, keptBelow, sentFrom, sentBelow, everyLetter, numbers, Ranked};
+ghost use Rattle.showing.specs.List.{from_task, waiting};
+ghost use Rattle.listing.specs.Asked.{Asked, laid_at, placed, Low, kept_of, kept_below, sent_from, sent_below, every_letter, numbers, Ranked};
 ghost use Rattle.listing.specs.Outcome.{told, list};
 
 use answers::Answer;
@@ -24,7 +24,7 @@ pub enum Listed {
 
 // The six words of a letter behind n letters in out, where out has room for them.
 fn lay(out: &mut [u32], n: u32, x: Shown)
-    ensures { out.new ≡ laidAt x n out.old }
+    ensures { out.new ≡ laid_at x n out.old }
 {
     let at = n as usize * 6;
     if at + 6 <= out.len() {
@@ -39,7 +39,7 @@ fn lay(out: &mut [u32], n: u32, x: Shown)
 
 // A letter at its task's rank, which rises by one.
 fn list_letter(x: Shown, ranks: &mut [u32; 256], out: &mut [u32])
-    requires destination_lt_task_ids { x.destination < taskIds }
+    requires destination_lt_task_ids { x.destination < task_ids }
     requires low { Low ranks.old 1 }
     ensures { record { ranks = ranks.exit.now; out = out.new } ≡ placed (x ∷ []) (record { ranks = ranks.entry.now; out = out.old }) }
 {
@@ -60,10 +60,10 @@ fn list_task_queue(
     out: &mut [u32],
 )
     requires asked { Asked s memory.now }
-    requires task_lt_task_ids { task < taskIds }
-    requires i_lt_nodes { (i < nodes) × (q < taskQueues) }
+    requires task_lt_task_ids { task < task_ids }
+    requires i_lt_nodes { (i < nodes) × (q < task_queues) }
     requires low { Low ranks.old 255 }
-    ensures { record { ranks = ranks.exit.now; out = out.new } ≡ placed (fromTask s memory.now task i (live (taskItems s memory.now i q))) (record { ranks = ranks.entry.now; out = out.old }) }
+    ensures { record { ranks = ranks.exit.now; out = out.new } ≡ placed (from_task s memory.now task i (live (task_items s memory.now i q))) (record { ranks = ranks.entry.now; out = out.old }) }
 {
     let k = queues::task_kind(s);
     let at = layout::task_at(s, q as usize);
@@ -82,9 +82,9 @@ fn list_task_queue(
 // The letters of a task's queue; a task that is bound to none has none.
 fn list_task(memory: &[u32], s: Settings, task: u32, ranks: &mut [u32; 256], out: &mut [u32])
     requires asked { Asked s memory.now }
-    requires task_lt_task_ids { task < taskIds }
+    requires task_lt_task_ids { task < task_ids }
     requires low { Low ranks.old 255 }
-    ensures { record { ranks = ranks.exit.now; out = out.new } ≡ placed (keptOf s memory.now task) (record { ranks = ranks.entry.now; out = out.old }) }
+    ensures { record { ranks = ranks.exit.now; out = out.new } ≡ placed (kept_of s memory.now task) (record { ranks = ranks.entry.now; out = out.old }) }
 {
     let Seat::At(i, q) = tasks::seat_of(&memory[24..536], task) else {
         return;
@@ -95,8 +95,8 @@ fn list_task(memory: &[u32], s: Settings, task: u32, ranks: &mut [u32; 256], out
 // The letters of all tasks' queues, task by task.
 fn list_tasks(memory: &[u32], s: Settings, ranks: &mut [u32; 256], out: &mut [u32])
     requires asked { Asked s memory.now }
-    requires low { Low ranks.old (taskIds * 255) }
-    ensures { record { ranks = ranks.exit.now; out = out.new } ≡ placed (keptBelow s memory.now taskIds) (record { ranks = ranks.entry.now; out = out.old }) }
+    requires low { Low ranks.old (task_ids * 255) }
+    ensures { record { ranks = ranks.exit.now; out = out.new } ≡ placed (kept_below s memory.now task_ids) (record { ranks = ranks.entry.now; out = out.old }) }
 {
     let mut task = 0;
     while task < 256 {
@@ -117,7 +117,7 @@ fn list_send_queue(
     requires asked { Asked s memory.now }
     requires i_lt_nodes { (i < nodes) × (j < nodes) }
     requires low { Low ranks.old 255 }
-    ensures { record { ranks = ranks.exit.now; out = out.new } ≡ placed (sentFrom s memory.now j (waiting s memory.now i j)) (record { ranks = ranks.entry.now; out = out.old }) }
+    ensures { record { ranks = ranks.exit.now; out = out.new } ≡ placed (sent_from s memory.now j (waiting s memory.now i j)) (record { ranks = ranks.entry.now; out = out.old }) }
 {
     let k = queues::send_kind(s);
     let at = layout::send_at(s, i as usize);
@@ -137,7 +137,7 @@ fn list_send_queue(
 fn list_nodes(memory: &[u32], s: Settings, ranks: &mut [u32; 256], out: &mut [u32])
     requires asked { Asked s memory.now }
     requires low { Low ranks.old (nodes * nodes * 255) }
-    ensures { record { ranks = ranks.exit.now; out = out.new } ≡ placed (sentBelow s memory.now (nodes * nodes)) (record { ranks = ranks.entry.now; out = out.old }) }
+    ensures { record { ranks = ranks.exit.now; out = out.new } ≡ placed (sent_below s memory.now (nodes * nodes)) (record { ranks = ranks.entry.now; out = out.old }) }
 {
     let mut c = 0;
     while c < 36 {
@@ -149,8 +149,8 @@ fn list_nodes(memory: &[u32], s: Settings, ranks: &mut [u32; 256], out: &mut [u3
 // All letters, each at its task's rank: those of the tasks' queues, then those that wait.
 fn list_letters(memory: &[u32], s: Settings, ranks: &mut [u32; 256], out: &mut [u32])
     requires asked { Asked s memory.now }
-    requires low { Low ranks.old ((taskIds + nodes * nodes) * 255) }
-    ensures { record { ranks = ranks.exit.now; out = out.new } ≡ placed (everyLetter s memory.now) (record { ranks = ranks.entry.now; out = out.old }) }
+    requires low { Low ranks.old ((task_ids + nodes * nodes) * 255) }
+    ensures { record { ranks = ranks.exit.now; out = out.new } ≡ placed (every_letter s memory.now) (record { ranks = ranks.entry.now; out = out.old }) }
 {
     list_tasks(memory, s, ranks, out);
     list_nodes(memory, s, ranks, out);
@@ -158,8 +158,8 @@ fn list_letters(memory: &[u32], s: Settings, ranks: &mut [u32; 256], out: &mut [
 
 // Turns each task's number of letters into its rank; answers how many letters there are.
 fn add_up(ranks: &mut [u32; 256]) -> u32
-    requires ranks_len { length ranks.old ≡ taskIds }
-    requires ranks_bound { sum taskIds (numbers ranks.old) ≤ 4294967295 }
+    requires ranks_len { length ranks.old ≡ task_ids }
+    requires ranks_bound { sum task_ids (numbers ranks.old) ≤ 4294967295 }
     ensures { Ranked (numbers ranks.old) ranks.new result }
 {
     let mut n = 0;

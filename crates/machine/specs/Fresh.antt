@@ -8,8 +8,8 @@ unfoldable pub up_to : ℕ → List ℕ
 up_to zero = []
 up_to (suc n) = up_to n ++ suc n ∷ []
 
-abbrev pub freshMachine : Settings → Machine
-freshMachine s =
+abbrev pub fresh_machine : Settings → Machine
+fresh_machine s =
     record {
       turn = 0;
       stage = λ j. 0;

@@ -1,13 +1,13 @@
 -- What a call may leave as it was: words of the memory, whose turn and positions, all of the machine.
 use Rattle.std.specs.Prelude.{◌≡◌, List, ℕ, ◌<◌, length}
-use Rattle.sound.specs.Reading.{settingsIn, tableIn}
+use Rattle.sound.specs.Reading.{settings_in, table_in}
 use Rattle.machine.specs.Machine.{Machine}
 
 -- how many words the memory has, its settings and its task table are the same
 pub record Fixed (before after : List ℕ) : Type 0 where
   pub size : length after ≡ length before
-  pub settings : settingsIn after ≡ settingsIn before
-  pub table : tableIn after ≡ tableIn before
+  pub settings : settings_in after ≡ settings_in before
+  pub table : table_in after ≡ table_in before
 
 -- whose turn it is and the postmen's positions are the same
 pub record Stands (before after : Machine) : Type 0 where

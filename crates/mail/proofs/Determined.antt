@@ -5,7 +5,7 @@ use Rattle.mail.specs.Determined.{Determined}
 pub determined : Determined
 determined =
     record {
-      setUp = λ b m s a t table memory x y k l e f. (e.0 ∙ sym f.0, e.1 ∙ sym f.1);
+      set_up = λ b m s a t table memory x y k l e f. (e.0 ∙ sym f.0, e.1 ∙ sym f.1);
       send = λ memory source destination body x y k l e f. (e.0 ∙ sym f.0, e.1 ∙ sym f.1);
       receive = λ memory destination source out x y k l p q e f. (e.0 ∙ sym f.0, e.1 ∙ sym f.1, e.2 ∙ sym f.2);
       turn = λ memory x y k l e f. (e.0 ∙ sym f.0, e.1 ∙ sym f.1);

@@ -12,7 +12,7 @@ abbrev pub CoincideBoth : (Answer → List ℕ → List ℕ → Type 0) → Type
 CoincideBoth May = (x y : Answer) (k l p q : List ℕ) → May x k p → May y l q → (x ≡ y) × (k ≡ l) × (p ≡ q)
 
 pub record Determined : Type 0 where
-  pub setUp : (b m s a t : ℕ) (table memory : List ℕ) → Coincide (SetsUp b m s a t table memory)
+  pub set_up : (b m s a t : ℕ) (table memory : List ℕ) → Coincide (SetsUp b m s a t table memory)
   pub send : (memory : List ℕ) (source destination : ℕ) (body : List ℕ) → Coincide (Sends memory source destination body)
   pub receive : (memory : List ℕ) (destination source : ℕ) (out : List ℕ) → CoincideBoth (Receives memory destination source out)
   pub turn : (memory : List ℕ) → Coincide (Turns memory)

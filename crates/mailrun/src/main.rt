@@ -1,6 +1,6 @@
 // The program: plays records of 8 bytes from standard input and prints a line for each.
 ghost use Rattle.std.specs.Prelude.{◌≡◌, ◌≤◌, ◌<◌, length, get_or};
-ghost use Rattle.mailrun.specs.Program.{wordFrom, sent, received, played};
+ghost use Rattle.mailrun.specs.Program.{word_from, sent, received, played};
 
 use answers::Answer;
 
@@ -13,7 +13,7 @@ fn wide(x: u8) -> u32
 // f: the last four bytes of a record, low byte first.
 fn word_from(bytes: &[u8]) -> u32
     requires { length bytes.now ≡ 8 }
-    ensures { result ≡ wordFrom bytes.now }
+    ensures { result ≡ word_from bytes.now }
 {
     let low = wide(bytes[4]) + wide(bytes[5]) * 256;
     let high = wide(bytes[6]) + wide(bytes[7]) * 256;

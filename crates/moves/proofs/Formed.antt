@@ -1,6 +1,6 @@
 -- One place's letters anew leave the nodes in order, and a stretch anew leaves the other words: so a memory represents the new machine. Assumes nothing.
---     order-put, flags-put     nodes and rows; position-put     a position; working-put     the memory
---     begins-working, ends-working     from a represented machine to what holds between moves, and back
+--     order-put, flags-put     nodes and rows; position_put     a position; working_put     the memory
+--     begins_working, ends_working     from a represented machine to what holds between moves, and back
 use mathlib.Core.Path.{◌≡◌, refl, sym, ap, ap₂, ◌∙◌, subst}
 use mathlib.Core.List.{List, [], map}
 use Prim.Native.Nat.{ℕ, ◌+◌, ◌-◌, ◌*◌, ◌≤◌, ◌<◌}
@@ -8,16 +8,16 @@ use native.Mathlib.Omega.{arith}
 use lib.ListN.{length, get_or, take}
 use Rattle.words.proofs.Lists.{put, put_same, put_other, same?}
 use Rattle.settings.specs.declared.Settings.{Settings}
-use Rattle.layout.specs.Places.{nodeSize, node, withNode, gapWord}
-use Rattle.queues.specs.Items.{gapFlag}
+use Rattle.layout.specs.Places.{node_size, node, with_node, gap_word}
+use Rattle.queues.specs.Items.{gap_flag}
 use Rattle.queues.proofs.Items.{FirstLive}
-use Rattle.sound.specs.Reading.{tableIn}
+use Rattle.sound.specs.Reading.{table_in}
 use Rattle.sound.specs.Queues.{task_of}
 use Rattle.machine.specs.Machine.{Letter, firsts, Live, words_of, Node, Machine, All}
 use Rattle.machine.specs.Core.{rows_of, Core}
 use Rattle.machine.specs.Represents.{Right, RightPosition, InOrder, Flagged, RepresentsAt}
 use Rattle.moves.proofs.Made.{placed, Working}
-use Rattle.moves.proofs.Memory.{with-long, with-word, with-table, rows-away}
+use Rattle.moves.proofs.Memory.{with_long, with_word, with_table, rows_away}
 
 -- the machine with other nodes
 abbrev pub with_nodes : Machine → (ℕ → Node) → Machine
@@ -29,7 +29,7 @@ pub record Fit (table : List ℕ) (i p : ℕ) (ls : List Letter) : Type 0 where
   pub front : 13 ≤ p → FirstLive (firsts ls)
   pub right : All (λ L. Live L → Right table i p L.words) ls
   pub itself : p ≡ 1 + i → ls ≡ []
-  pub itself-ack : p ≡ 7 + i → ls ≡ []
+  pub itself_ack : p ≡ 7 + i → ls ≡ []
   pub unbound : (q : ℕ) → p ≡ 13 + q → task_of table i q ≡ 0 → ls ≡ []
 
 -- where the position of node j names the queue at place p of node i, the first letter stays
@@ -73,23 +73,23 @@ module _ (M : ℕ → Node) (i : ℕ) (fr : List ℕ) (p : ℕ) (ls : List Lette
         live = λ k q a b. each (λ k q x. q < 13 → All Live x) (λ c. fit.live c) k q (λ n c. o.live k q a c) b;
         fronts = λ k q a b. each (λ k q x. 13 ≤ q → FirstLive (firsts x)) (λ c. fit.front c) k (13 + q) (λ n c. o.fronts k q a b) (omega arith);
         itself = λ k a. each (λ k q x. q ≡ 1 + k → x ≡ []) fit.itself k (1 + k) (λ n c. o.itself k a) refl;
-        itself-ack = λ k a. each (λ k q x. q ≡ 7 + k → x ≡ []) fit.itself-ack k (7 + k) (λ n c. o.itself-ack k a) refl;
+        itself_ack = λ k a. each (λ k q x. q ≡ 7 + k → x ≡ []) fit.itself_ack k (7 + k) (λ n c. o.itself_ack k a) refl;
         unbound = λ k q a b z. each (λ k y x. y ≡ 13 + q → task_of table k q ≡ 0 → x ≡ []) (λ c d. fit.unbound q c d) k (13 + q) (λ n c d. o.unbound k q a b d) refl z;
         letters = λ k q a b. each (λ k q x. All (λ L. Live L → Right table k q L.words) x) fit.right k q (λ n. o.letters k q a b);
       }
 
   -- flags: the row of place p shows ls, and the rows of the other task queues are as they were
-  pub flags-put : (R R' : ℕ → ℕ → List ℕ) → Flagged R M → ((q : ℕ) → q < 64 → p ≡ 13 + q → get_or (R' i (13 + q)) gapWord 0 ≡ gapFlag (firsts ls))
+  pub flags-put : (R R' : ℕ → ℕ → List ℕ) → Flagged R M → ((q : ℕ) → q < 64 → p ≡ 13 + q → get_or (R' i (13 + q)) gap_word 0 ≡ gap_flag (firsts ls))
       → ((k q : ℕ) → k < 6 → q < 64 → (k ≡ i → p ≡ 13 + q → ⊥) → R' k (13 + q) ≡ R k (13 + q)) → Flagged R' (put M i (placed (M i) fr p ls))
   flags-put R R' f here others k q a b =
-      each (λ k y x. y ≡ 13 + q → k < 6 → get_or (R' k (13 + q)) gapWord 0 ≡ gapFlag (firsts x))
+      each (λ k y x. y ≡ 13 + q → k < 6 → get_or (R' k (13 + q)) gap_word 0 ≡ gap_flag (firsts x))
       (λ e c. here q b e) k (13 + q)
       (λ n e c. ap (λ (w : List ℕ). get_or w 2 0) (others k q a b (λ u v. n u (sym v))) ∙ f k q a b) refl a
 
 -- a position of the machine with that place anew
 module _ (m : Machine) (i : ℕ) (fr : List ℕ) (p : ℕ) (lo : 1 ≤ p) (ls : List Letter) where
-  pub position-put : (j : ℕ) → RightPosition m j → Heads m i p ls j → RightPosition (with_nodes m (put m.node i (placed (m.node i) fr p ls))) j
-  position-put j o w =
+  pub position_put : (j : ℕ) → RightPosition m j → Heads m i p ls j → RightPosition (with_nodes m (put m.node i (placed (m.node i) fr p ls))) j
+  position_put j o w =
       let hand : (N m.node i fr p ls j).letters 0 ≡ (m.node j).letters 0 = at_other m.node i fr p ls j 0 (λ u v. omega arith) in
       record {
         none = o.none;
@@ -105,34 +105,34 @@ module _ (m : Machine) (i : ℕ) (fr : List ℕ) (p : ℕ) (lo : 1 ≤ p) (ls : 
       }
 
 -- ---- THE MEMORY with node i's stretch anew
-module _ (s : Settings) (table memory : List ℕ) (M : ℕ → Node) (wk : Working s table memory M) (i : ℕ) (h : i < 6) (l : List ℕ) (long : length l ≡ nodeSize s)
+module _ (s : Settings) (table memory : List ℕ) (M : ℕ → Node) (wk : Working s table memory M) (i : ℕ) (h : i < 6) (l : List ℕ) (long : length l ≡ node_size s)
     (fr : List ℕ) (p : ℕ) (hi : p < 77) (ls : List Letter) (fit : Fit table i p ls)
-    (core : Core s (rows_of s (withNode s memory i l)) (put M i (placed (M i) fr p ls)))
-    (here : (q : ℕ) → q < 64 → p ≡ 13 + q → get_or (rows_of s (withNode s memory i l) i (13 + q)) gapWord 0 ≡ gapFlag (firsts ls))
-    (others : (q : ℕ) → q < 64 → (p ≡ 13 + q → ⊥) → rows_of s (withNode s memory i l) i (13 + q) ≡ rows_of s memory i (13 + q)) where
-  pub working-put : Working s table (withNode s memory i l) (put M i (placed (M i) fr p ls))
-  working-put =
+    (core : Core s (rows_of s (with_node s memory i l)) (put M i (placed (M i) fr p ls)))
+    (here : (q : ℕ) → q < 64 → p ≡ 13 + q → get_or (rows_of s (with_node s memory i l) i (13 + q)) gap_word 0 ≡ gap_flag (firsts ls))
+    (others : (q : ℕ) → q < 64 → (p ≡ 13 + q → ⊥) → rows_of s (with_node s memory i l) i (13 + q) ≡ rows_of s memory i (13 + q)) where
+  pub working_put : Working s table (with_node s memory i l) (put M i (placed (M i) fr p ls))
+  working_put =
       record {
-        size = with-long s memory wk.size i h l long ∙ wk.size;
+        size = with_long s memory wk.size i h l long ∙ wk.size;
         core = core;
         order = order-put M i fr p ls table wk.order hi fit;
-        flags = flags-put M i fr p ls (rows_of s memory) (rows_of s (withNode s memory i l)) wk.flags here
+        flags = flags-put M i fr p ls (rows_of s memory) (rows_of s (with_node s memory i l)) wk.flags here
             (λ k q a b n. same? k i
-            (λ e t. ap (λ (x : ℕ). rows_of s (withNode s memory i l) x (13 + q)) e ∙ others q b (n e) ∙ ap (λ (x : ℕ). rows_of s memory x (13 + q)) (sym e))
-            (λ e t. rows-away s memory wk.size i h l long k (13 + q) e));
+            (λ e t. ap (λ (x : ℕ). rows_of s (with_node s memory i l) x (13 + q)) e ∙ others q b (n e) ∙ ap (λ (x : ℕ). rows_of s memory x (13 + q)) (sym e))
+            (λ e t. rows_away s memory wk.size i h l long k (13 + q) e));
       }
 
 -- ---- A CALL BEGINS with the memory and its nodes, and ends with a machine whose positions are those that it had
-pub begins-working : (s : Settings) (memory : List ℕ) (m : Machine) → RepresentsAt s memory m → Working s (tableIn memory) memory m.node
-begins-working s memory m rep = record { size = rep.size; core = rep.core; order = rep.formed.order; flags = rep.shows.flags }
+pub begins_working : (s : Settings) (memory : List ℕ) (m : Machine) → RepresentsAt s memory m → Working s (table_in memory) memory m.node
+begins_working s memory m rep = record { size = rep.size; core = rep.core; order = rep.formed.order; flags = rep.shows.flags }
 
-pub ends-working : (s : Settings) (memory : List ℕ) (m : Machine) → RepresentsAt s memory m → (i : ℕ) → i < 6 → (l : List ℕ) → length l ≡ nodeSize s
+pub ends_working : (s : Settings) (memory : List ℕ) (m : Machine) → RepresentsAt s memory m → (i : ℕ) → i < 6 → (l : List ℕ) → length l ≡ node_size s
     → (fr : List ℕ) (p : ℕ) → 1 ≤ p → (ls : List Letter) → ((j : ℕ) → j < 6 → Heads m i p ls j)
-    → Working s (tableIn memory) (withNode s memory i l) (put m.node i (placed (m.node i) fr p ls))
-    → RepresentsAt s (withNode s memory i l) (with_nodes m (put m.node i (placed (m.node i) fr p ls)))
-ends-working s memory m rep i h l long fr p lo ls heads wk =
-    let word : (k : ℕ) → k < 536 → get_or (withNode s memory i l) k 0 ≡ get_or memory k 0 = with-word s memory rep.size i h l long in
-    let e : tableIn (withNode s memory i l) ≡ tableIn memory = with-table s memory rep.size i h l long in
+    → Working s (table_in memory) (with_node s memory i l) (put m.node i (placed (m.node i) fr p ls))
+    → RepresentsAt s (with_node s memory i l) (with_nodes m (put m.node i (placed (m.node i) fr p ls)))
+ends_working s memory m rep i h l long fr p lo ls heads wk =
+    let word : (k : ℕ) → k < 536 → get_or (with_node s memory i l) k 0 ≡ get_or memory k 0 = with_word s memory rep.size i h l long in
+    let e : table_in (with_node s memory i l) ≡ table_in memory = with_table s memory rep.size i h l long in
     let hand : (j : ℕ) → (put m.node i (placed (m.node i) fr p ls) j).letters 0 ≡ (m.node j).letters 0 = λ j. at_other m.node i fr p ls j 0 (λ u v. omega arith) in
     record {
       size = wk.size;
@@ -145,5 +145,5 @@ ends-working s memory m rep i h l long fr p lo ls heads wk =
         hand = λ j g. word (6 + j * 3 + 2) (omega arith) ∙ rep.shows.hand j g ∙ ap (λ (x : List Letter). get_or (firsts x) 0 0) (sym (hand j));
         flags = wk.flags;
       };
-      formed = rw e (record { turn = rep.formed.turn; order = wk.order; positions = λ j g. position-put m i fr p lo ls j (rep.formed.positions j g) (heads j g) });
+      formed = rw e (record { turn = rep.formed.turn; order = wk.order; positions = λ j g. position_put m i fr p lo ls j (rep.formed.positions j g) (heads j g) });
     }

@@ -9,53 +9,53 @@ use lib.ListN.{get_or}
 use borrow.Author.Tests.{eq-eqb, ne_eqb, leb-true}
 use Rattle.words.proofs.Lists.{and-true}
 use Rattle.settings.specs.declared.Settings.{Settings}
-use Rattle.layout.specs.Places.{nodes, taskQueues, node, sendAt, ackAt, taskAt}
-use Rattle.layout.proofs.NodeRows.{by-send, by-ack, by-task}
-use Rattle.tasks.specs.Seat.{seatAt}
-use Rattle.queues.specs.Queue.{sendKind, ackKind, taskKind, contents}
+use Rattle.layout.specs.Places.{nodes, task_queues, node, send_at, ack_at, task_at}
+use Rattle.layout.proofs.NodeRows.{by-send, by_ack, by_task}
+use Rattle.tasks.specs.Seat.{seat_at}
+use Rattle.queues.specs.Queue.{send_kind, ack_kind, task_kind, contents}
 use Rattle.queues.specs.Items.{live}
-use Rattle.queues.proofs.Items.{live-cons}
-use Rattle.sound.specs.Reading.{tableIn, stageOf, held_of, sendItems, ackItems, taskItems}
+use Rattle.queues.proofs.Items.{live_cons}
+use Rattle.sound.specs.Reading.{table_in, stage_of, held_of, send_items, ack_items, task_items}
 use Rattle.sound.specs.Queues.{task_of}
-use Rattle.sound.specs.Letters.{wordsFrom, rightPlace, fromTo, rightLetter}
-use Rattle.sound.specs.Positions.{namesOther, held}
+use Rattle.sound.specs.Letters.{words_from, right_place, from_to, right_letter}
+use Rattle.sound.specs.Positions.{names_other, held}
 use Rattle.sound.specs.Blocks.{begun, chains}
-use Rattle.sound.proofs.Given.{send-queue, send-live, ack-queue, ack-live, task-queue}
+use Rattle.sound.proofs.Given.{send-queue, send-live, ack_queue, ack_live, task_queue}
 use Rattle.sound.proofs.Tests.{all_same}
 use Rattle.shapes.specs.Seats.{Seats}
 use Rattle.visits.specs.declared.Asks.{Asks}
 use Rattle.visits.specs.declared.Asks.TheVariants.{Any, Between, To}
 use Rattle.visits.specs.Marks.{fresh, marked}
-use Rattle.visits.specs.Letters.{isAsked, meets, letterRight, lettersRight, Judged}
-use Rattle.visits.proofs.Judge.{right-none, marks-none}
+use Rattle.visits.specs.Letters.{is_asked, meets, letter_right, letters_right, Judged}
+use Rattle.visits.proofs.Judge.{right_none, marks_none}
 use Rattle.places.specs.declared.Place.{Place}
-use Rattle.places.specs.Given.{standsRight, Looked, begunAt, Stands}
-use Rattle.places.proofs.Ranges.{placeRight}
+use Rattle.places.specs.Given.{stands_right, Looked, begun_at, Stands}
+use Rattle.places.proofs.Ranges.{place_right}
 
 -- ---- what was judged of letters at a place that asks what the rules ask for there
-module _ (s : Settings) (memory : List ℕ) (i p : ℕ) (asks : Asks) (h : (ws : List ℕ) → meets asks ws ≡ rightPlace (tableIn memory) i p ws) where
-  same-letter : (b : ℕ) → letterRight s (node s memory i) (tableIn memory) asks b ≡ rightLetter s (node s memory i) (tableIn memory) i p b
-  unfolding letterRight rightLetter
-  same-letter b = rw (h (wordsFrom s (node s memory i) b))
+module _ (s : Settings) (memory : List ℕ) (i p : ℕ) (asks : Asks) (h : (ws : List ℕ) → meets asks ws ≡ right_place (table_in memory) i p ws) where
+  same_letter : (b : ℕ) → letter_right s (node s memory i) (table_in memory) asks b ≡ right_letter s (node s memory i) (table_in memory) i p b
+  unfolding letter_right right_letter
+  same_letter b = rw (h (words_from s (node s memory i) b))
 
-  pub judged-place : (marks bs : List ℕ) (r : Bool) (new : List ℕ) → bs ≡ begun s memory i p
-      → Judged (lettersRight s (node s memory i) (tableIn memory) asks marks bs) (marked marks (chains s (node s memory i) bs)) r new
-      → Judged (placeRight s memory i marks p) (marked marks (chains s (node s memory i) (begun s memory i p))) r new
-  unfolding lettersRight
-  judged-place marks bs r new e v =
+  pub judged_place : (marks bs : List ℕ) (r : Bool) (new : List ℕ) → bs ≡ begun s memory i p
+      → Judged (letters_right s (node s memory i) (table_in memory) asks marks bs) (marked marks (chains s (node s memory i) bs)) r new
+      → Judged (place_right s memory i marks p) (marked marks (chains s (node s memory i) (begun s memory i p))) r new
+  unfolding letters_right
+  judged_place marks bs r new e v =
       let w = rw e at v in
       record {
         is = w.is ∙ ap (λ (b : Bool). b && fresh marks (chains s (node s memory i) (begun s memory i p)))
-            (all_same (letterRight s (node s memory i) (tableIn memory) asks) (rightLetter s (node s memory i) (tableIn memory) i p) (begun s memory i p) same-letter);
+            (all_same (letter_right s (node s memory i) (table_in memory) asks) (right_letter s (node s memory i) (table_in memory) i p) (begun s memory i p) same_letter);
         marks = w.marks;
       }
 
 -- what was judged through parts that were lent
-pub judged-lent : (s : Settings) (memory : List ℕ) (i : ℕ) (x : Place) (l t queue : List ℕ) → l ≡ node s memory i → t ≡ tableIn memory → queue ≡ node s memory x.holder
+pub judged_lent : (s : Settings) (memory : List ℕ) (i : ℕ) (x : Place) (l t queue : List ℕ) → l ≡ node s memory i → t ≡ table_in memory → queue ≡ node s memory x.holder
     → (marks : List ℕ) (r : Bool) (new : List ℕ)
-    → Judged (lettersRight s l t x.asks marks (live (contents x.kind queue x.at))) (marked marks (chains s l (live (contents x.kind queue x.at)))) r new
-    → Judged (lettersRight s (node s memory i) (tableIn memory) x.asks marks (begunAt s memory x)) (marked marks (chains s (node s memory i) (begunAt s memory x))) r new
-judged-lent s memory i x l t queue el et eq marks r new v = rw (el, et, eq) at v
+    → Judged (letters_right s l t x.asks marks (live (contents x.kind queue x.at))) (marked marks (chains s l (live (contents x.kind queue x.at)))) r new
+    → Judged (letters_right s (node s memory i) (table_in memory) x.asks marks (begun_at s memory x)) (marked marks (chains s (node s memory i) (begun_at s memory x))) r new
+judged_lent s memory i x l t queue el et eq marks r new v = rw (el, et, eq) at v
 
 -- ---- the hand
 module _ (s : Settings) (memory : List ℕ) (i : ℕ) (g : Looked s memory) (small : i < nodes) where
@@ -63,79 +63,79 @@ module _ (s : Settings) (memory : List ℕ) (i : ℕ) (g : Looked s memory) (sma
   unfolding begun
   begun-hand = refl
 
-  pub hand-asks : (ws : List ℕ) → meets Any ws ≡ rightPlace (tableIn memory) i 0 ws
-  unfolding isAsked rightPlace
-  hand-asks ws = refl
+  pub hand_asks : (ws : List ℕ) → meets Any ws ≡ right_place (table_in memory) i 0 ws
+  unfolding is_asked right_place
+  hand_asks ws = refl
 
-  pub hand-none : (marks : List ℕ) → (stageOf memory i ≡ 2 → ⊥) → Judged (placeRight s memory i marks 0) (marked marks (chains s (node s memory i) (begun s memory i 0))) true marks
+  pub hand_none : (marks : List ℕ) → (stage_of memory i ≡ 2 → ⊥) → Judged (place_right s memory i marks 0) (marked marks (chains s (node s memory i) (begun s memory i 0))) true marks
   unfolding held
-  hand-none marks h =
-      let e : [] ≡ begun s memory i 0 = sym (begun-hand ∙ rw (ne_eqb (stageOf memory i) 2 h)) in
-      judged-place s memory i 0 Any hand-asks marks [] true marks e
-      (record { is = sym (right-none s (node s memory i) (tableIn memory) Any marks); marks = λ f. sym (marks-none s (node s memory i) (tableIn memory) Any marks) })
+  hand_none marks h =
+      let e : [] ≡ begun s memory i 0 = sym (begun-hand ∙ rw (ne_eqb (stage_of memory i) 2 h)) in
+      judged_place s memory i 0 Any hand_asks marks [] true marks e
+      (record { is = sym (right_none s (node s memory i) (table_in memory) Any marks); marks = λ f. sym (marks_none s (node s memory i) (table_in memory) Any marks) })
 
   -- a block held is not 0
-  held-some : stageOf memory i ≡ 2 → held_of memory i ≡ 0 → ⊥
-  unfolding standsRight
-  held-some e z =
+  held_some : stage_of memory i ≡ 2 → held_of memory i ≡ 0 → ⊥
+  unfolding stands_right
+  held_some e z =
       let r = g.positions i small in
-      let a : leb (stageOf memory i) 3 && (namesOther s memory i && cond (eqb (stageOf memory i) 2) (leb 1 (held_of memory i) && leb (held_of memory i) s.m) (eqb (held_of memory i) 0)) ≡ true =
-      rw (ne_eqb (stageOf memory i) 0 (λ y. omega arith)) at r in
-      let b = and-true (namesOther s memory i) _ (and-true (leb (stageOf memory i) 3) _ a).1 in
-      let c : leb 1 (held_of memory i) && leb (held_of memory i) s.m ≡ true = rw (eq-eqb (stageOf memory i) 2 e) at b.1 in
+      let a : leb (stage_of memory i) 3 && (names_other s memory i && cond (eqb (stage_of memory i) 2) (leb 1 (held_of memory i) && leb (held_of memory i) s.m) (eqb (held_of memory i) 0)) ≡ true =
+      rw (ne_eqb (stage_of memory i) 0 (λ y. omega arith)) at r in
+      let b = and-true (names_other s memory i) _ (and-true (leb (stage_of memory i) 3) _ a).1 in
+      let c : leb 1 (held_of memory i) && leb (held_of memory i) s.m ≡ true = rw (eq-eqb (stage_of memory i) 2 e) at b.1 in
       let d = leb-true 1 (held_of memory i) (and-true (leb 1 (held_of memory i)) _ c).0 in
       omega arith
 
-  pub begun-held : stageOf memory i ≡ 2 → live (held_of memory i ∷ []) ≡ begun s memory i 0
+  pub begun-held : stage_of memory i ≡ 2 → live (held_of memory i ∷ []) ≡ begun s memory i 0
   unfolding held live
-  begun-held e = live-cons (held_of memory i) [] (held-some e) ∙ sym (begun-hand ∙ rw (eq-eqb (stageOf memory i) 2 e))
+  begun-held e = live_cons (held_of memory i) [] (held_some e) ∙ sym (begun-hand ∙ rw (eq-eqb (stage_of memory i) 2 e))
 
 -- ---- the places that are queues
 -- what is known of a place
 pub record At (s : Settings) (memory : List ℕ) (i p : ℕ) (x : Place) : Type 0 where
   pub stands : Stands s memory x
-  pub begins : begunAt s memory x ≡ begun s memory i p
-  pub asked : (ws : List ℕ) → meets x.asks ws ≡ rightPlace (tableIn memory) i p ws
+  pub begins : begun_at s memory x ≡ begun s memory i p
+  pub asked : (ws : List ℕ) → meets x.asks ws ≡ right_place (table_in memory) i p ws
 
 module _ (s : Settings) (memory : List ℕ) (i : ℕ) (g : Looked s memory) (small : i < nodes) where
-  pub send-place : (k : ℕ) → k < nodes → At s memory i (1 + k) (record { holder = i; kind = sendKind s; at = sendAt s k; asks = Between i k })
-  unfolding begun isAsked rightPlace
+  pub send-place : (k : ℕ) → k < nodes → At s memory i (1 + k) (record { holder = i; kind = send_kind s; at = send_at s k; asks = Between i k })
+  unfolding begun is_asked right_place
   send-place k h =
       let d : 1 + k - 1 ≡ k = omega arith in
       record {
         stands = record { there = small; queue = send-queue s memory g.sized i small (g.queues i small) k h };
         begins = send-live s memory g.sized i small (g.queues i small) k h
-            ∙ sym (by-send (1 + k) _ (sendItems s memory i (1 + k - 1)) _ _ [] (omega arith) (omega arith) ∙ ap (sendItems s memory i) d);
-        asked = λ ws. sym (by-send (1 + k) true (fromTo i (1 + k - 1) ws) (fromTo i (1 + k - 7) ws) (eqb (get_or ws 2 0) (task_of (tableIn memory) i (1 + k - 13))) true (omega arith) (omega arith)
-            ∙ ap (λ (n : ℕ). fromTo i n ws) d);
+            ∙ sym (by-send (1 + k) _ (send_items s memory i (1 + k - 1)) _ _ [] (omega arith) (omega arith) ∙ ap (send_items s memory i) d);
+        asked = λ ws. sym (by-send (1 + k) true (from_to i (1 + k - 1) ws) (from_to i (1 + k - 7) ws) (eqb (get_or ws 2 0) (task_of (table_in memory) i (1 + k - 13))) true (omega arith) (omega arith)
+            ∙ ap (λ (n : ℕ). from_to i n ws) d);
       }
 
-  pub ack-place : (j : ℕ) → j < nodes → At s memory i (7 + j) (record { holder = j; kind = ackKind s; at = ackAt s i; asks = Between i j })
-  unfolding begun isAsked rightPlace
-  ack-place j h =
+  pub ack_place : (j : ℕ) → j < nodes → At s memory i (7 + j) (record { holder = j; kind = ack_kind s; at = ack_at s i; asks = Between i j })
+  unfolding begun is_asked right_place
+  ack_place j h =
       let d : 7 + j - 7 ≡ j = omega arith in
       record {
-        stands = record { there = h; queue = ack-queue s memory g.sized j h (g.queues j h) i small };
-        begins = ack-live s memory g.sized j h (g.queues j h) i small
-            ∙ sym (by-ack (7 + j) _ _ (ackItems s memory (7 + j - 7) i) _ [] (omega arith) (omega arith) ∙ ap (λ (n : ℕ). ackItems s memory n i) d);
-        asked = λ ws. sym (by-ack (7 + j) true (fromTo i (7 + j - 1) ws) (fromTo i (7 + j - 7) ws) (eqb (get_or ws 2 0) (task_of (tableIn memory) i (7 + j - 13))) true (omega arith) (omega arith)
-            ∙ ap (λ (n : ℕ). fromTo i n ws) d);
+        stands = record { there = h; queue = ack_queue s memory g.sized j h (g.queues j h) i small };
+        begins = ack_live s memory g.sized j h (g.queues j h) i small
+            ∙ sym (by_ack (7 + j) _ _ (ack_items s memory (7 + j - 7) i) _ [] (omega arith) (omega arith) ∙ ap (λ (n : ℕ). ack_items s memory n i) d);
+        asked = λ ws. sym (by_ack (7 + j) true (from_to i (7 + j - 1) ws) (from_to i (7 + j - 7) ws) (eqb (get_or ws 2 0) (task_of (table_in memory) i (7 + j - 13))) true (omega arith) (omega arith)
+            ∙ ap (λ (n : ℕ). from_to i n ws) d);
       }
 
-  pub task-place : (row : List ℕ) → Seats (tableIn memory) row → (q : ℕ) → q < taskQueues → At s memory i (13 + q) (record { holder = i; kind = taskKind s; at = taskAt s q; asks = To (get_or row (seatAt i q) 0) })
-  unfolding begun isAsked rightPlace
-  task-place row seats q h =
+  pub task_place : (row : List ℕ) → Seats (table_in memory) row → (q : ℕ) → q < task_queues → At s memory i (13 + q) (record { holder = i; kind = task_kind s; at = task_at s q; asks = To (get_or row (seat_at i q) 0) })
+  unfolding begun is_asked right_place
+  task_place row seats q h =
       let d : 13 + q - 13 ≡ q = omega arith in
       record {
-        stands = record { there = small; queue = task-queue s memory g.sized i small (g.queues i small) q h };
-        begins = sym (by-task (13 + q) _ _ _ (live (taskItems s memory i (13 + q - 13))) [] (omega arith) (omega arith) ∙ ap (λ (n : ℕ). live (taskItems s memory i n)) d);
+        stands = record { there = small; queue = task_queue s memory g.sized i small (g.queues i small) q h };
+        begins = sym (by_task (13 + q) _ _ _ (live (task_items s memory i (13 + q - 13))) [] (omega arith) (omega arith) ∙ ap (λ (n : ℕ). live (task_items s memory i n)) d);
         asked = λ ws. ap (eqb (get_or ws 2 0)) (seats.is i q small h)
-            ∙ sym (by-task (13 + q) true (fromTo i (13 + q - 1) ws) (fromTo i (13 + q - 7) ws) (eqb (get_or ws 2 0) (task_of (tableIn memory) i (13 + q - 13))) true (omega arith) (omega arith)
-            ∙ ap (λ (n : ℕ). eqb (get_or ws 2 0) (task_of (tableIn memory) i n)) d);
+            ∙ sym (by_task (13 + q) true (from_to i (13 + q - 1) ws) (from_to i (13 + q - 7) ws) (eqb (get_or ws 2 0) (task_of (table_in memory) i (13 + q - 13))) true (omega arith) (omega arith)
+            ∙ ap (λ (n : ℕ). eqb (get_or ws 2 0) (task_of (table_in memory) i n)) d);
       }
 
 -- what was judged of the letters of a place, by what is known of it
-pub judged-at : (s : Settings) (memory : List ℕ) (i p : ℕ) (x : Place) → At s memory i p x → (marks : List ℕ) (r : Bool) (new : List ℕ)
-    → Judged (lettersRight s (node s memory i) (tableIn memory) x.asks marks (begunAt s memory x)) (marked marks (chains s (node s memory i) (begunAt s memory x))) r new
-    → Judged (placeRight s memory i marks p) (marked marks (chains s (node s memory i) (begun s memory i p))) r new
-judged-at s memory i p x k marks r new v = judged-place s memory i p x.asks k.asked marks (begunAt s memory x) r new k.begins v
+pub judged_at : (s : Settings) (memory : List ℕ) (i p : ℕ) (x : Place) → At s memory i p x → (marks : List ℕ) (r : Bool) (new : List ℕ)
+    → Judged (letters_right s (node s memory i) (table_in memory) x.asks marks (begun_at s memory x)) (marked marks (chains s (node s memory i) (begun_at s memory x))) r new
+    → Judged (place_right s memory i marks p) (marked marks (chains s (node s memory i) (begun s memory i p))) r new
+judged_at s memory i p x k marks r new v = judged_place s memory i p x.asks k.asked marks (begun_at s memory x) r new k.begins v

@@ -1,23 +1,23 @@
 // The places of a node: the letters at each of them, and each block in exactly one place.
 ghost use Rattle.std.specs.Prelude.{◌≡◌, ◌&&◌, ◌≤◌, ◌<◌, get_or};
-ghost use Rattle.layout.specs.Places.{nodes, taskQueues, firstFreeAt, node};
+ghost use Rattle.layout.specs.Places.{nodes, task_queues, first_free_at, node};
 ghost use Rattle.layout.specs.Asked.{Stretch};
-ghost use Rattle.sound.specs.Reading.{tableIn};
-ghost use Rattle.sound.specs.Letters.{chainFrom};
-ghost use Rattle.sound.specs.Blocks.{chains, standing, eachOnce, rightLetters};
+ghost use Rattle.sound.specs.Reading.{table_in};
+ghost use Rattle.sound.specs.Letters.{chain_from};
+ghost use Rattle.sound.specs.Blocks.{chains, standing, each_once, right_letters};
 ghost use Rattle.shapes.specs.Seats.{Seats};
 ghost use Rattle.visits.specs.Marks.{marked};
-ghost use Rattle.visits.specs.Letters.{lettersRight, Judged};
+ghost use Rattle.visits.specs.Letters.{letters_right, Judged};
 ghost use Rattle.places.specs.Given.{
   Looked,
   Node,
-  begunAt,
+  begun_at,
   Stands,
-  standingFrom,
-  rangeRight,
-  freeRight,
-  placesRight,
-  allMarked,
+  standing_from,
+  range_right,
+  free_right,
+  places_right,
+  all_marked,
 };
 
 use queues::Kind;
@@ -37,7 +37,7 @@ pub struct Place {
 fn is_right_hand(memory: &[u32], s: Settings, marks: &mut [u8; 1025], i: usize) -> bool
     requires looked { Looked s memory.now }
     requires i_lt_nodes { i < nodes }
-    ensures { Judged (rangeRight s memory.now i marks.old 0 1) (marked marks.old (standingFrom s memory.now i 0 1)) result marks.new }
+    ensures { Judged (range_right s memory.now i marks.old 0 1) (marked marks.old (standing_from s memory.now i 0 1)) result marks.new }
 {
     let at = 6 + i * 3;
     if memory[at] != 2 {
@@ -66,7 +66,7 @@ fn are_right_letters(
     requires looked { Looked s memory.now }
     requires i_lt_nodes { i < nodes }
     requires stands { Stands s memory.now place }
-    ensures { Judged (lettersRight s (node s memory.now i) (tableIn memory.now) place.asks marks.old (begunAt s memory.now place)) (marked marks.old (chains s (node s memory.now i) (begunAt s memory.now place))) result marks.new }
+    ensures { Judged (letters_right s (node s memory.now i) (table_in memory.now) place.asks marks.old (begun_at s memory.now place)) (marked marks.old (chains s (node s memory.now i) (begun_at s memory.now place))) result marks.new }
 {
     let k = place.kind;
     let q = place.at;
@@ -93,7 +93,7 @@ fn are_right_letters(
 fn are_right_sends(memory: &[u32], s: Settings, marks: &mut [u8; 1025], i: usize) -> bool
     requires looked { Looked s memory.now }
     requires i_lt_nodes { i < nodes }
-    ensures { Judged (rangeRight s memory.now i marks.old 1 nodes) (marked marks.old (standingFrom s memory.now i 1 nodes)) result marks.new }
+    ensures { Judged (range_right s memory.now i marks.old 1 nodes) (marked marks.old (standing_from s memory.now i 1 nodes)) result marks.new }
 {
     let mut k = 0;
     while k < 6 {
@@ -115,7 +115,7 @@ fn are_right_sends(memory: &[u32], s: Settings, marks: &mut [u8; 1025], i: usize
 fn are_right_acks(memory: &[u32], s: Settings, marks: &mut [u8; 1025], i: usize) -> bool
     requires looked { Looked s memory.now }
     requires i_lt_nodes { i < nodes }
-    ensures { Judged (rangeRight s memory.now i marks.old 7 nodes) (marked marks.old (standingFrom s memory.now i 7 nodes)) result marks.new }
+    ensures { Judged (range_right s memory.now i marks.old 7 nodes) (marked marks.old (standing_from s memory.now i 7 nodes)) result marks.new }
 {
     let mut j = 0;
     while j < 6 {
@@ -142,7 +142,7 @@ fn are_right_tasks(
     i: usize,
 ) -> bool
     requires { Node s memory.now seats.now i }
-    ensures { Judged (rangeRight s memory.now i marks.old 13 taskQueues) (marked marks.old (standingFrom s memory.now i 13 taskQueues)) result marks.new }
+    ensures { Judged (range_right s memory.now i marks.old 13 task_queues) (marked marks.old (standing_from s memory.now i 13 task_queues)) result marks.new }
 {
     let mut q = 0;
     while q < 64 {
@@ -169,7 +169,7 @@ fn are_right_places(
     i: usize,
 ) -> bool
     requires { Node s memory.now seats.now i }
-    ensures { Judged (placesRight s memory.now i marks.old) (marked marks.old (standing s memory.now i 77)) result marks.new }
+    ensures { Judged (places_right s memory.now i marks.old) (marked marks.old (standing s memory.now i 77)) result marks.new }
 {
     if !is_right_hand(memory, s, marks, i) {
         return false;
@@ -186,7 +186,7 @@ fn are_right_places(
 // The free list.
 fn is_right_free(stretch: &[u32], s: Settings, marks: &mut [u8; 1025]) -> bool
     requires { Stretch s stretch.now }
-    ensures { Judged (freeRight s stretch.now marks.old) (marked marks.old (chainFrom s stretch.now (get_or stretch.now firstFreeAt 0))) result marks.new }
+    ensures { Judged (free_right s stretch.now marks.old) (marked marks.old (chain_from s stretch.now (get_or stretch.now first_free_at 0))) result marks.new }
 {
     let walk = visits::visit(stretch, s, marks, stretch[0]);
     let Walk::Ended(_) = walk else {
@@ -198,7 +198,7 @@ fn is_right_free(stretch: &[u32], s: Settings, marks: &mut [u8; 1025]) -> bool
 // Whether blocks 1 to m have a mark.
 fn are_all_marked(marks: &[u8; 1025], m: usize) -> bool
     requires { m ≤ 1024 }
-    ensures { result ≡ allMarked m marks.now }
+    ensures { result ≡ all_marked m marks.now }
 {
     let mut b: usize = 0;
     while b < m {
@@ -213,9 +213,9 @@ fn are_all_marked(marks: &[u8; 1025], m: usize) -> bool
 // The fifth and the sixth rule in node i.
 pub fn is_right_node(memory: &[u32], s: Settings, seats: &[u8; 384], i: usize) -> bool
     requires looked { Looked s memory.now }
-    requires seats { Seats (tableIn memory.now) seats.now }
+    requires seats { Seats (table_in memory.now) seats.now }
     requires i_lt_nodes { i < nodes }
-    ensures { result ≡ (eachOnce s memory.now i && rightLetters s memory.now i) }
+    ensures { result ≡ (each_once s memory.now i && right_letters s memory.now i) }
 {
     let mut marks = [0u8; 1025];
     if !is_right_free(layout::stretch(memory, s, i), s, &mut marks) {

@@ -4,18 +4,18 @@ use mathlib.Core.List.{List, [], ◌∷◌, ◌++◌}
 use Prim.Native.Nat.{ℕ, ◌+◌}
 use lib.ListN.{length, get_or, set, replicate}
 use Rattle.settings.specs.declared.Settings.{Settings}
-use Rattle.layout.specs.Places.{room_at, sendAt, taskAt, gapWord, blocksAt, block_at, nodeSize}
+use Rattle.layout.specs.Places.{room_at, send_at, task_at, gap_word, blocks_at, block_at, node_size}
 use Rattle.words.specs.Words.{more}
 use Rattle.blocks.specs.Chain.{needs, list, chain, text, free}
-use Rattle.blocks.specs.Moves.{enough, taken, takenFrom}
+use Rattle.blocks.specs.Moves.{enough, taken, taken_from}
 use Rattle.letters.specs.declared.Header.{Header}
 use Rattle.letters.specs.Letter.{letter, laid}
-use Rattle.letters.specs.Made.{letterOf}
-use Rattle.queues.specs.Queue.{sendKind, taskKind, run, contents}
+use Rattle.letters.specs.Made.{letter_of}
+use Rattle.queues.specs.Queue.{send_kind, task_kind, run, contents}
 use Rattle.queues.specs.Items.{live}
-use Rattle.queues.specs.Moves.{counted, added, appended, appendAnswer}
-use Rattle.gaps.specs.Close.{laid as laidRow, closed, cramped, roomy}
-use Rattle.posting.specs.Post.{Posted, hasRoom, appendedTo, full_of, put_in, posted}
+use Rattle.queues.specs.Moves.{counted, added, appended, append_answer}
+use Rattle.gaps.specs.Close.{laid as laid_row, closed, cramped, roomy}
+use Rattle.posting.specs.Post.{Posted, has_room, appended_to, full_of, put_in, posted}
 use Rattle.posting.specs.declared.Goal.{Goal}
 use Rattle.posting.specs.declared.Goal.TheVariants.{Task, Node}
 use Rattle.posting.specs.declared.Sent.TheVariants.{Done, TooFewBlocks, QueueFull}
@@ -48,41 +48,41 @@ abbrev after₃ : Goal → List ℕ → List ℕ → List ℕ → Posted
 after₃ goal ws vs us = posted s (after₂ goal ws vs).stretch goal us
 
 -- the first three lines of the program's output: done with two blocks, again, and then too few blocks
-pub sends-afar : ((after₁ (Node 3) (letterOf afar (100 ∷ 101 ∷ 102 ∷ []))).answer ≡ Done 2)
-    × ((after₂ (Node 3) (letterOf afar (100 ∷ 101 ∷ 102 ∷ [])) (letterOf afar (200 ∷ 201 ∷ 202 ∷ []))).answer ≡ Done 2)
-    × ((after₃ (Node 3) (letterOf afar (100 ∷ 101 ∷ 102 ∷ [])) (letterOf afar (200 ∷ 201 ∷ 202 ∷ [])) (letterOf afar [])).answer ≡ TooFewBlocks)
-unfolding needs list enough taken takenFrom laid run counted more added appended appendAnswer hasRoom appendedTo full_of put_in posted letterOf sendAt blocksAt block_at
-sends-afar = (refl, refl, refl)
+pub sends_afar : ((after₁ (Node 3) (letter_of afar (100 ∷ 101 ∷ 102 ∷ []))).answer ≡ Done 2)
+    × ((after₂ (Node 3) (letter_of afar (100 ∷ 101 ∷ 102 ∷ [])) (letter_of afar (200 ∷ 201 ∷ 202 ∷ []))).answer ≡ Done 2)
+    × ((after₃ (Node 3) (letter_of afar (100 ∷ 101 ∷ 102 ∷ [])) (letter_of afar (200 ∷ 201 ∷ 202 ∷ [])) (letter_of afar [])).answer ≡ TooFewBlocks)
+unfolding needs list enough taken taken_from laid run counted more added appended append_answer has_room appended_to full_of put_in posted letter_of send_at blocks_at block_at
+sends_afar = (refl, refl, refl)
 
 -- and what they leave: two letters that are read back, no block free, the room count 1
-pub leaves-afar : (let m = (after₃ (Node 3) (letterOf afar (100 ∷ 101 ∷ 102 ∷ [])) (letterOf afar (200 ∷ 201 ∷ 202 ∷ [])) (letterOf afar [])).stretch in
-    (contents (sendKind s) m (sendAt s 3) ≡ 1 ∷ 3 ∷ [])
+pub leaves_afar : (let m = (after₃ (Node 3) (letter_of afar (100 ∷ 101 ∷ 102 ∷ [])) (letter_of afar (200 ∷ 201 ∷ 202 ∷ [])) (letter_of afar [])).stretch in
+    (contents (send_kind s) m (send_at s 3) ≡ 1 ∷ 3 ∷ [])
     × (letter s m 8 1 ≡ 27 ∷ 2 ∷ 52 ∷ 3 ∷ 8 ∷ 100 ∷ 101 ∷ 102 ∷ [])
     × (letter s m 8 3 ≡ 27 ∷ 2 ∷ 52 ∷ 3 ∷ 8 ∷ 200 ∷ 201 ∷ 202 ∷ [])
     × (free s m ≡ [])
     × (get_or m room_at 0 ≡ 1))
-unfolding needs list chain text enough taken takenFrom letter laid run counted more added appended appendAnswer hasRoom appendedTo full_of put_in posted letterOf sendAt blocksAt block_at
-leaves-afar = (refl, refl, refl, refl, refl)
+unfolding needs list chain text enough taken taken_from letter laid run counted more added appended append_answer has_room appended_to full_of put_in posted letter_of send_at blocks_at block_at
+leaves_afar = (refl, refl, refl, refl, refl)
 
 -- to a task queue of the node, a block each: done, done, and the queue is full; but for its full count the stretch is as it was
-pub sends-near : ((after₂ (Task 5) (letterOf near []) (letterOf near [])).answer ≡ Done 1)
-    × ((after₃ (Task 5) (letterOf near []) (letterOf near []) (letterOf near [])).answer ≡ QueueFull)
-    × ((after₃ (Task 5) (letterOf near []) (letterOf near []) (letterOf near [])).stretch ≡ set (after₂ (Task 5) (letterOf near []) (letterOf near [])).stretch (taskAt s 5 + 3) 1)
-    × (contents (taskKind s) (after₂ (Task 5) (letterOf near []) (letterOf near [])).stretch (taskAt s 5) ≡ 1 ∷ 2 ∷ [])
-unfolding needs list enough taken takenFrom laid run live counted more added appended appendAnswer laidRow closed cramped roomy hasRoom appendedTo full_of put_in posted letterOf taskAt blocksAt block_at
-sends-near = (refl, refl, refl, refl)
+pub sends_near : ((after₂ (Task 5) (letter_of near []) (letter_of near [])).answer ≡ Done 1)
+    × ((after₃ (Task 5) (letter_of near []) (letter_of near []) (letter_of near [])).answer ≡ QueueFull)
+    × ((after₃ (Task 5) (letter_of near []) (letter_of near []) (letter_of near [])).stretch ≡ set (after₂ (Task 5) (letter_of near []) (letter_of near [])).stretch (task_at s 5 + 3) 1)
+    × (contents (task_kind s) (after₂ (Task 5) (letter_of near []) (letter_of near [])).stretch (task_at s 5) ≡ 1 ∷ 2 ∷ [])
+unfolding needs list enough taken taken_from laid run live counted more added appended append_answer laid_row closed cramped roomy has_room appended_to full_of put_in posted letter_of task_at blocks_at block_at
+sends_near = (refl, refl, refl, refl)
 
 -- the second item is a gap: it is closed, and the queue takes one more
 abbrev gapped : List ℕ
-gapped = set (set (after₂ (Task 5) (letterOf near []) (letterOf near [])).stretch (taskAt s 5 + 6) 0) (taskAt s 5 + gapWord) 1
+gapped = set (set (after₂ (Task 5) (letter_of near []) (letter_of near [])).stretch (task_at s 5 + 6) 0) (task_at s 5 + gap_word) 1
 
-pub sends-gapped : ((posted s gapped (Task 5) (letterOf near (9 ∷ []))).answer ≡ Done 1)
-    × (contents (taskKind s) (posted s gapped (Task 5) (letterOf near (9 ∷ []))).stretch (taskAt s 5) ≡ 1 ∷ 3 ∷ [])
-    × (get_or (posted s gapped (Task 5) (letterOf near (9 ∷ []))).stretch (taskAt s 5 + gapWord) 0 ≡ 0)
-unfolding needs list enough taken takenFrom laid run live counted more added appended appendAnswer laidRow closed cramped roomy hasRoom appendedTo full_of put_in posted letterOf taskAt blocksAt block_at
-sends-gapped = (refl, refl, refl)
+pub sends_gapped : ((posted s gapped (Task 5) (letter_of near (9 ∷ []))).answer ≡ Done 1)
+    × (contents (task_kind s) (posted s gapped (Task 5) (letter_of near (9 ∷ []))).stretch (task_at s 5) ≡ 1 ∷ 3 ∷ [])
+    × (get_or (posted s gapped (Task 5) (letter_of near (9 ∷ []))).stretch (task_at s 5 + gap_word) 0 ≡ 0)
+unfolding needs list enough taken taken_from laid run live counted more added appended append_answer laid_row closed cramped roomy has_room appended_to full_of put_in posted letter_of task_at blocks_at block_at
+sends_gapped = (refl, refl, refl)
 
 -- the stretch is as long as the settings say
-pub long : length fresh ≡ nodeSize s
-unfolding nodeSize
+pub long : length fresh ≡ node_size s
+unfolding node_size
 long = refl

@@ -8,19 +8,19 @@ use lib.Dec.{eqb, ltb}
 use lib.ListN.{length, get_or}
 use Rattle.words.proofs.Lists.{split, same?}
 use Rattle.settings.specs.declared.Settings.{Settings}
-use Rattle.layout.specs.Places.{gapWord, sendAt, taskAt}
+use Rattle.layout.specs.Places.{gap_word, send_at, task_at}
 use Rattle.blocks.specs.Chain.{list}
 use Rattle.blocks.specs.Moves.{enough}
 use Rattle.blocks.specs.Asked.{Takes}
 use Rattle.blocks.proofs.Taking.{too_few, has-enough}
-use Rattle.queues.specs.Queue.{sendKind, taskKind, items, contents, Queue}
+use Rattle.queues.specs.Queue.{send_kind, task_kind, items, contents, Queue}
 use Rattle.queues.specs.Tasks.{TaskQueue}
-use Rattle.queues.specs.Moves.{appendAnswer}
+use Rattle.queues.specs.Moves.{append_answer}
 use Rattle.queues.proofs.Items.{gap-small}
-use Rattle.queues.proofs.Tasks.{TaskRing, task-of}
-use Rattle.gaps.specs.Close.{taskAnswer}
-use Rattle.gaps.proofs.Closed.{append-room, append-gap, append-full}
-use Rattle.posting.specs.Post.{tookIt, hasRoom}
+use Rattle.queues.proofs.Tasks.{TaskRing, task_of_lem}
+use Rattle.gaps.specs.Close.{task_answer}
+use Rattle.gaps.proofs.Closed.{append-room, append-gap, append_full}
+use Rattle.posting.specs.Post.{took_it, has_room}
 use Rattle.posting.specs.Asked.{Queued}
 use Rattle.posting.specs.declared.Goal.{Goal}
 use Rattle.posting.specs.declared.Goal.TheVariants.{Task, Node}
@@ -34,41 +34,41 @@ blocks-there s node n t last e =
 -- a task queue: below its length, or with a gap to close
 module _ (s : Settings) (node : List ℕ) (q : ℕ) (w : TaskQueue s node q) where
   abbrev xs : List ℕ
-  xs = contents (taskKind s) node q
+  xs = contents (task_kind s) node q
 
   t : TaskRing s node q xs
-  t = task-of s node q w
+  t = task_of_lem s node q w
 
-  pub task-below : items (taskKind s) node q < s.t → true ≡ tookIt (taskAnswer s node q)
-  task-below h = rw (append-room s node q xs t 1 (λ e. omega arith) (omega (arith, t.ring.count))).1
+  pub task_below : items (task_kind s) node q < s.t → true ≡ took_it (task_answer s node q)
+  task_below h = rw (append-room s node q xs t 1 (λ e. omega arith) (omega (arith, t.ring.count))).1
 
-  pub task-flag : s.t ≤ items (taskKind s) node q → eqb (get_or node (q + gapWord) 0) 1 ≡ tookIt (taskAnswer s node q)
-  task-flag h =
+  pub task_flag : s.t ≤ items (task_kind s) node q → eqb (get_or node (q + gap_word) 0) 1 ≡ took_it (task_answer s node q)
+  task_flag h =
       let e : length xs ≡ s.t = omega (arith, t.ring.count, t.ring.fits) in
-      same? (get_or node (q + gapWord) 0) 1
+      same? (get_or node (q + gap_word) 0) 1
       (λ g y. rw (y, (append-gap s node q xs t 1 (λ z. omega arith) e (sym t.flag ∙ g)).1))
-      (λ g y. rw (y, (append-full s node q xs t 1 e (omega (arith, gap-small xs, t.flag))).1))
+      (λ g y. rw (y, (append_full s node q xs t 1 e (omega (arith, gap-small xs, t.flag))).1))
 
 -- a send queue: below its length
-pub send-below : (s : Settings) (node : List ℕ) (q : ℕ) → ltb (items (sendKind s) node q) s.s ≡ tookIt (appendAnswer (sendKind s) node q)
-unfolding appendAnswer
-send-below s node q = split (ltb (items (sendKind s) node q) s.s) (λ e. rw e) (λ e. rw e)
+pub send_below : (s : Settings) (node : List ℕ) (q : ℕ) → ltb (items (send_kind s) node q) s.s ≡ took_it (append_answer (send_kind s) node q)
+unfolding append_answer
+send_below s node q = split (ltb (items (send_kind s) node q) s.s) (λ e. rw e) (λ e. rw e)
 
 -- what is known of the goal, by which it is
 module _ (s : Settings) (node : List ℕ) (goal : Goal) (w : Queued s node goal) (q : ℕ) where
-  pub queued-task : goal ≡ Task q → (q < 64) × TaskQueue s node (taskAt s q)
+  pub queued_task : goal ≡ Task q → (q < 64) × TaskQueue s node (task_at s q)
   unfolding Queued
-  queued-task e = rw e at w
+  queued_task e = rw e at w
 
-  pub queued-node : goal ≡ Node q → (q < 6) × Queue (sendKind s) node (sendAt s q)
+  pub queued-node : goal ≡ Node q → (q < 6) × Queue (send_kind s) node (send_at s q)
   unfolding Queued
   queued-node e = rw e at w
 
 module _ (s : Settings) (node : List ℕ) (goal : Goal) (q : ℕ) (r : Bool) where
-  pub room-task : goal ≡ Task q → r ≡ tookIt (taskAnswer s node (taskAt s q)) → r ≡ hasRoom s node goal
-  unfolding hasRoom
-  room-task e f = rw e f
+  pub room_task : goal ≡ Task q → r ≡ took_it (task_answer s node (task_at s q)) → r ≡ has_room s node goal
+  unfolding has_room
+  room_task e f = rw e f
 
-  pub room-node : goal ≡ Node q → r ≡ tookIt (appendAnswer (sendKind s) node (sendAt s q)) → r ≡ hasRoom s node goal
-  unfolding hasRoom
+  pub room-node : goal ≡ Node q → r ≡ took_it (append_answer (send_kind s) node (send_at s q)) → r ≡ has_room s node goal
+  unfolding has_room
   room-node e f = rw e f

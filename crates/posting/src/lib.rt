@@ -1,14 +1,14 @@
 // Posting: a letter is put into a node's stretch, or refused there.
 ghost use Rattle.std.specs.Prelude.{◌≡◌, ◌+◌, length};
-ghost use Rattle.layout.specs.Numbers.{headerWords};
+ghost use Rattle.layout.specs.Numbers.{header_words};
 ghost use Rattle.blocks.specs.Asked.{Takes};
 ghost use Rattle.blocks.specs.Moves.{enough};
-ghost use Rattle.letters.specs.Made.{letterOf};
-ghost use Rattle.queues.specs.Queue.{Queue, sendKind};
+ghost use Rattle.letters.specs.Made.{letter_of};
+ghost use Rattle.queues.specs.Queue.{Queue, send_kind};
 ghost use Rattle.queues.specs.Tasks.{TaskQueue};
-ghost use Rattle.queues.specs.Moves.{counted, appendAnswer};
-ghost use Rattle.gaps.specs.Close.{taskAnswer};
-ghost use Rattle.posting.specs.Post.{tookIt, hasRoom, appendedTo, full_of, put_in, posted};
+ghost use Rattle.queues.specs.Moves.{counted, append_answer};
+ghost use Rattle.gaps.specs.Close.{task_answer};
+ghost use Rattle.posting.specs.Post.{took_it, has_room, appended_to, full_of, put_in, posted};
 ghost use Rattle.posting.specs.Asked.{Aims, Posts, Roomy};
 
 use blocks::Taken;
@@ -46,7 +46,7 @@ fn has_blocks(node: &[u32], s: Settings, n: usize) -> bool
 // Whether the task queue at word q takes one more, its gaps closed.
 fn task_has_room(node: &[u32], s: Settings, q: usize) -> bool
     requires { TaskQueue s node.now q }
-    ensures { result ≡ tookIt (taskAnswer s node.now q) }
+    ensures { result ≡ took_it (task_answer s node.now q) }
 {
     if (node[q + 1] as usize) < s.t {
         return true;
@@ -56,8 +56,8 @@ fn task_has_room(node: &[u32], s: Settings, q: usize) -> bool
 
 // Whether the send queue at word q takes one more.
 fn send_has_room(node: &[u32], s: Settings, q: usize) -> bool
-    requires { Queue (sendKind s) node.now q }
-    ensures { result ≡ tookIt (appendAnswer (sendKind s) node.now q) }
+    requires { Queue (send_kind s) node.now q }
+    ensures { result ≡ took_it (append_answer (send_kind s) node.now q) }
 {
     (node[q + 1] as usize) < s.s
 }
@@ -65,7 +65,7 @@ fn send_has_room(node: &[u32], s: Settings, q: usize) -> bool
 // Whether the goal takes one more.
 fn has_room(node: &[u32], s: Settings, goal: Goal) -> bool
     requires { Aims s node.now goal }
-    ensures { result ≡ hasRoom s node.now goal }
+    ensures { result ≡ has_room s node.now goal }
 {
     match goal {
         Goal::Task(q) => task_has_room(node, s, layout::task_at(s, q)),
@@ -93,7 +93,7 @@ fn count_full(node: &mut [u32], s: Settings, goal: Goal)
 // Appends a block to the goal.
 fn append_to(node: &mut [u32], s: Settings, goal: Goal, b: u32)
     requires { Aims s node.old goal }
-    ensures { node.new ≡ appendedTo s node.old goal b }
+    ensures { node.new ≡ appended_to s node.old goal b }
 {
     match goal {
         Goal::Task(q) => {
@@ -109,8 +109,8 @@ fn append_to(node: &mut [u32], s: Settings, goal: Goal, b: u32)
 
 // Takes blocks, writes the letter and appends the first block.
 fn put_in(node: &mut [u32], s: Settings, goal: Goal, header: Header, body: &[u32])
-    requires { Roomy s node.old goal (headerWords + length body.now) }
-    ensures { node.new ≡ put_in s node.old goal (letterOf header body.now) }
+    requires { Roomy s node.old goal (header_words + length body.now) }
+    ensures { node.new ≡ put_in s node.old goal (letter_of header body.now) }
 {
     let n = blocks::needs_of(s, 5 + body.len());
     let Taken::First(first) = blocks::take(node, s, n) else {
@@ -122,8 +122,8 @@ fn put_in(node: &mut [u32], s: Settings, goal: Goal, header: Header, body: &[u32
 
 // Puts a letter into the stretch, or counts what was wanting: blocks, or room in the queue.
 pub fn post(node: &mut [u32], s: Settings, goal: Goal, header: Header, body: &[u32]) -> Sent
-    requires { Posts s node.old goal (headerWords + length body.now) }
-    ensures { record { answer = result; stretch = node.new } ≡ posted s node.old goal (letterOf header body.now) }
+    requires { Posts s node.old goal (header_words + length body.now) }
+    ensures { record { answer = result; stretch = node.new } ≡ posted s node.old goal (letter_of header body.now) }
 {
     let n = blocks::needs_of(s, 5 + body.len());
     let took = n as u32;

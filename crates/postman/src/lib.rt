@@ -1,8 +1,8 @@
 // The postman: his position, how a stage ends, and the turn so far.
 ghost use Rattle.std.specs.Prelude.{◌≡◌, ◌+◌, ◌≤◌, ◌<◌, length};
-ghost use Rattle.layout.specs.Places.{nodes, nodesAt};
-ghost use Rattle.postman.specs.Position.{stoppedAt, restedAt, position_of, kept};
-ghost use Rattle.postman.specs.Round.{at_start, stopped, oneLetter, blocksBack};
+ghost use Rattle.layout.specs.Places.{nodes, nodes_at};
+ghost use Rattle.postman.specs.Position.{stopped_at, rested_at, position_of, kept};
+ghost use Rattle.postman.specs.Round.{at_start, stopped, one_letter, blocks_back};
 
 // How a stage ends: done, or stopped with the refusal's number.
 #[derive(Drop)]
@@ -30,7 +30,7 @@ pub struct Round {
 
 // The position of node j's postman.
 pub fn position_of(memory: &[u32], j: usize) -> Position
-    requires nodes_at_in_bounds { nodesAt ≤ length memory.now }
+    requires nodes_at_in_bounds { nodes_at ≤ length memory.now }
     requires j_lt_nodes { j < nodes }
     ensures { result ≡ position_of memory.now j }
 {
@@ -44,7 +44,7 @@ pub fn position_of(memory: &[u32], j: usize) -> Position
 
 // Keeps node j's position, and passes the turn on.
 pub fn keep(memory: &mut [u32], j: usize, p: Position)
-    requires nodes_at_in_bounds { nodesAt ≤ length memory.old }
+    requires nodes_at_in_bounds { nodes_at ≤ length memory.old }
     requires j_lt_nodes { j < nodes }
     ensures { memory.new ≡ kept memory.old j p }
 {
@@ -61,14 +61,14 @@ pub fn keep(memory: &mut [u32], j: usize, p: Position)
 
 // The position at a stage, by value: the core.
 fn stopped_at(p: Position, stage: u32, other: u32, held: u32) -> Position
-    ensures { result ≡ stoppedAt p stage other held }
+    ensures { result ≡ stopped_at p stage other held }
 {
     Position { stage, other, held }
 }
 
 // The stage becomes 1, 2 or 3: the position amended where it stands.
 pub fn stop_at(p: &mut Position, stage: u32, other: u32, held: u32)
-    ensures { p.new ≡ stoppedAt p.old stage other held }
+    ensures { p.new ≡ stopped_at p.old stage other held }
 {
     let q = *p;
     *p = stopped_at(q, stage, other, held);
@@ -76,7 +76,7 @@ pub fn stop_at(p: &mut Position, stage: u32, other: u32, held: u32)
 
 // By value again, for callers with branches.
 fn amended(p: Position, stage: u32, other: u32, held: u32) -> Position
-    ensures { result ≡ stoppedAt p stage other held }
+    ensures { result ≡ stopped_at p stage other held }
 {
     let mut q = p;
     stop_at(&mut q, stage, other, held);
@@ -85,7 +85,7 @@ fn amended(p: Position, stage: u32, other: u32, held: u32) -> Position
 
 // The position at rest, by value: the core.
 fn at_rest(p: Position) -> Position
-    ensures { result ≡ restedAt p }
+    ensures { result ≡ rested_at p }
 {
     Position {
         stage: 0,
@@ -96,7 +96,7 @@ fn at_rest(p: Position) -> Position
 
 // A turn that finishes sets stage 0: the position amended where it stands.
 pub fn rest(p: &mut Position)
-    ensures { p.new ≡ restedAt p.old }
+    ensures { p.new ≡ rested_at p.old }
 {
     let q = *p;
     *p = at_rest(q);
@@ -104,7 +104,7 @@ pub fn rest(p: &mut Position)
 
 // By value again, for callers with branches.
 fn rested(p: Position) -> Position
-    ensures { result ≡ restedAt p }
+    ensures { result ≡ rested_at p }
 {
     let mut q = p;
     rest(&mut q);
@@ -143,7 +143,7 @@ pub fn stop(r: Round, stage: u32, i: usize, x: u32, how: Stage) -> Round
 // One letter more was appended to a task queue.
 pub fn one_letter(r: Round) -> Round
     requires { r.letters < 4294967295 }
-    ensures { result ≡ oneLetter r }
+    ensures { result ≡ one_letter r }
 {
     let position = r.position;
     let how = r.how;
@@ -159,7 +159,7 @@ pub fn one_letter(r: Round) -> Round
 // So many blocks more were given back.
 pub fn blocks_back(r: Round, n: usize) -> Round
     requires { r.back + n ≤ 4294967295 }
-    ensures { result ≡ blocksBack r n }
+    ensures { result ≡ blocks_back r n }
 {
     let position = r.position;
     let how = r.how;

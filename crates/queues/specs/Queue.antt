@@ -1,25 +1,25 @@
 -- The three kinds of queue in a node's stretch: 'Settings and memory'.
 use Rattle.std.specs.Prelude.{◌≡◌, List, [], ◌∷◌, ℕ, zero, suc, ◌+◌, ◌%◌, ◌≤◌, ◌<◌, length, get_or}
 use Rattle.settings.specs.declared.Settings.{Settings}
-use Rattle.layout.specs.Places.{itemsWord, fullWord, queueHead, taskFullWord, taskHead}
+use Rattle.layout.specs.Places.{items_word, full_word, queue_head, task_full_word, task_head}
 use Rattle.queues.specs.declared.Kind.{Kind}
 
 -- a kind of queue: the words before its slots, its slots, and which of the words counts the appends that found it full
 -- 'six send queues: start, items, full count, S slots'
-abbrev pub sendKind : Settings → Kind
-sendKind s = record { head = queueHead; slots = s.s; full = fullWord }
+abbrev pub send_kind : Settings → Kind
+send_kind s = record { head = queue_head; slots = s.s; full = full_word }
 
 -- 'six acknowledge queues: the same with A slots'
-abbrev pub ackKind : Settings → Kind
-ackKind s = record { head = queueHead; slots = s.a; full = fullWord }
+abbrev pub ack_kind : Settings → Kind
+ack_kind s = record { head = queue_head; slots = s.a; full = full_word }
 
 -- '64 task queues: start, items, gap flag, full count, empty count, T slots'
-abbrev pub taskKind : Settings → Kind
-taskKind s = record { head = taskHead; slots = s.t; full = taskFullWord }
+abbrev pub task_kind : Settings → Kind
+task_kind s = record { head = task_head; slots = s.t; full = task_full_word }
 
 -- 'Queues run round': the word of slot i, counted from the slot that the queue at word q starts with
-abbrev pub slotFrom : Kind → ℕ → ℕ → ℕ → ℕ
-slotFrom k q first i = q + (k.head + (first + i) % k.slots)
+abbrev pub slot_from : Kind → ℕ → ℕ → ℕ → ℕ
+slot_from k q first i = q + (k.head + (first + i) % k.slots)
 
 module _ (k : Kind) (node : List ℕ) (q : ℕ) where
   -- the queue that stands at word q: its start and its number of items
@@ -27,10 +27,10 @@ module _ (k : Kind) (node : List ℕ) (q : ℕ) where
   start = get_or node q 0
 
   abbrev pub items : ℕ
-  items = get_or node (q + itemsWord) 0
+  items = get_or node (q + items_word) 0
 
   abbrev pub slot_at : ℕ → ℕ
-  slot_at i = slotFrom k q start i
+  slot_at i = slot_from k q start i
 
   -- what stands at place i, counted from the first item
   abbrev pub item_at : ℕ → ℕ

@@ -1,10 +1,10 @@
 // The queues of a node's stretch: what the three kinds have in common.
 ghost use Rattle.std.specs.Prelude.{◌≡◌, ◌+◌, ◌≤◌, ◌<◌, length};
-ghost use Rattle.queues.specs.Queue.{Queue, sendKind, ackKind, taskKind, items, item_at};
+ghost use Rattle.queues.specs.Queue.{Queue, send_kind, ack_kind, task_kind, items, item_at};
 ghost use Rattle.queues.specs.Moves.{
   counted,
   appended,
-  appendAnswer,
+  append_answer,
   dropped,
   Near,
   IsSlot,
@@ -29,7 +29,7 @@ pub enum Appended {
 
 // The send queues' kind.
 pub fn send_kind(s: Settings) -> Kind
-    ensures { result ≡ sendKind s }
+    ensures { result ≡ send_kind s }
 {
     Kind {
         head: 3,
@@ -40,7 +40,7 @@ pub fn send_kind(s: Settings) -> Kind
 
 // The acknowledge queues' kind.
 pub fn ack_kind(s: Settings) -> Kind
-    ensures { result ≡ ackKind s }
+    ensures { result ≡ ack_kind s }
 {
     Kind {
         head: 3,
@@ -51,7 +51,7 @@ pub fn ack_kind(s: Settings) -> Kind
 
 // The task queues' kind.
 pub fn task_kind(s: Settings) -> Kind
-    ensures { result ≡ taskKind s }
+    ensures { result ≡ task_kind s }
 {
     Kind {
         head: 5,
@@ -104,7 +104,7 @@ pub fn item(node: &[u32], k: Kind, q: usize, i: usize) -> u32
 // Puts an item behind the last, or counts that there was no room.
 pub fn append(node: &mut [u32], k: Kind, q: usize, item: u32) -> Appended
     requires { Queue k node.old q }
-    ensures { (node.new ≡ appended k node.old q item) × (result ≡ appendAnswer k node.old q) }
+    ensures { (node.new ≡ appended k node.old q item) × (result ≡ append_answer k node.old q) }
 {
     let first = node[q] as usize;
     let count = node[q + 1];

@@ -8,10 +8,10 @@ abbrev pub carried_of : ℕ → ℕ → ℕ → ℕ
 carried_of left at room = min left (room - at)
 
 -- 'Each block carries B-1 words and then its link': the link's word, counted from the word before the blocks
-abbrev pub linkFrom : ℕ → ℕ → ℕ → ℕ
-linkFrom before room block = before + block * (room + 1)
+abbrev pub link_from : ℕ → ℕ → ℕ → ℕ
+link_from before room block = before + block * (room + 1)
 
 -- 'as if its words stood together': the words left that the block carries, and then the block that its link names; no step where none is left
-abbrev pub stepAt : List ℕ → ℕ → ℕ → ℕ → ℕ → ℕ → Step
-stepAt node block left at before room =
-    cond (eqb left 0) End (Words (carried_of left at room) (get_or node (linkFrom before room block) 0))
+abbrev pub step_at : List ℕ → ℕ → ℕ → ℕ → ℕ → ℕ → Step
+step_at node block left at before room =
+    cond (eqb left 0) End (Words (carried_of left at room) (get_or node (link_from before room block) 0))

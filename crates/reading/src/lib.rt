@@ -1,6 +1,6 @@
 // A letter is read through its chain as if its words stood together: a thin reader over a node's stretch.
 ghost use Rattle.std.specs.Prelude.{◌≡◌};
-ghost use Rattle.reading.specs.Read.{carried_of, stepAt};
+ghost use Rattle.reading.specs.Read.{carried_of, step_at};
 
 // The node's stretch, the block that is read, and how many words are left.
 #[derive(Drop)]
@@ -31,7 +31,7 @@ fn carried(left: usize, at: usize, room: usize) -> usize
 
 // The work: the step at word `at` of a block that carries `room` words, where the blocks follow word `before`.
 pub fn step_at(node: &[u32], block: u32, left: usize, at: usize, before: u32, room: u32) -> Step
-    ensures { result ≡ stepAt node.now block left at before room }
+    ensures { result ≡ step_at node.now block left at before room }
 {
     if left == 0 {
         return Step::End;
@@ -52,14 +52,14 @@ pub fn new<'a>(node: &'a [u32], block: u32, left: usize) -> Reader<'a>
 }
 
 pub fn next<'a>(r: Reader<'a>, at: usize, before: u32, room: u32) -> Step
-    ensures { result ≡ stepAt r.entry.node.now r.entry.block r.entry.left at before room }
+    ensures { result ≡ step_at r.entry.node.now r.entry.block r.entry.left at before room }
 {
     step_at(r.node, r.block, r.left, at, before, room)
 }
 
 // Plain parameters: whoever calls this holds no reader.
 pub fn first(node: &[u32], block: u32, left: usize, at: usize, before: u32, room: u32) -> Step
-    ensures { result ≡ stepAt node.now block left at before room }
+    ensures { result ≡ step_at node.now block left at before room }
 {
     next(new(node, block, left), at, before, room)
 }

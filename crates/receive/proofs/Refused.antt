@@ -5,9 +5,9 @@ use mathlib.Core.List.{List}
 use Prim.Native.Nat.{ℕ}
 use Rattle.sound.specs.Sound.{sound}
 use Rattle.receive.specs.declared.Received.TheVariants.{NotSound}
-use Rattle.receive.specs.Outcome.{refusedBy, receive}
+use Rattle.receive.specs.Outcome.{refused_by, receive}
 
-pub not_sound : (memory : List ℕ) (destination source : ℕ) (out : List ℕ) → sound memory ≡ false
-    → refusedBy memory destination source out NotSound ≡ receive memory destination source out
+pub not_sound_lem : (memory : List ℕ) (destination source : ℕ) (out : List ℕ) → sound memory ≡ false
+    → refused_by memory destination source out NotSound ≡ receive memory destination source out
 unfolding receive
-not_sound memory destination source out e = rw e
+not_sound_lem memory destination source out e = rw e

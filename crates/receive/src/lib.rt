@@ -1,15 +1,15 @@
 // Receive: the call that takes a letter from a task queue and gives its blocks back.
 ghost use Rattle.std.specs.Prelude.{◌≡◌, true, cond, ◌||◌, ◌+◌, ◌≤◌, eqb, length, drop};
-ghost use Rattle.layout.specs.Places.{settingWords, nodesAt, taskAt, emptyWord};
-ghost use Rattle.layout.specs.Numbers.{headerWords};
-ghost use Rattle.queues.specs.Queue.{taskKind, item_at};
+ghost use Rattle.layout.specs.Places.{setting_words, nodes_at, task_at, empty_word};
+ghost use Rattle.layout.specs.Numbers.{header_words};
+ghost use Rattle.queues.specs.Queue.{task_kind, item_at};
 ghost use Rattle.queues.specs.Moves.{counted};
 ghost use Rattle.letters.specs.Letter.{onto};
-ghost use Rattle.tasks.specs.Table.{isBound};
-ghost use Rattle.sound.specs.Reading.{settingsIn, tableIn};
-ghost use Rattle.sound.specs.Letters.{wordsFrom};
+ghost use Rattle.tasks.specs.Table.{is_bound};
+ghost use Rattle.sound.specs.Reading.{settings_in, table_in};
+ghost use Rattle.sound.specs.Letters.{words_from};
 ghost use Rattle.sound.specs.Sound.{sound};
-ghost use Rattle.receive.specs.Take.{filled, emptied, tookAt, took};
+ghost use Rattle.receive.specs.Take.{filled, emptied, took_at, took};
 ghost use Rattle.receive.specs.Outcome.{told, receive};
 ghost use Rattle.receive.specs.Asked.{Whole, Fits, Holds, Leaves, Kept, Seated, Collects};
 
@@ -67,7 +67,7 @@ fn is_filled(node: &[u32], s: Settings, q: usize, source: u32) -> bool
 fn in_vain(node: &mut [u32], s: Settings, q: usize, source: u32) -> Received
     requires { Kept s node.old q }
     ensures answer { result ≡ cond (filled s node.old q source) Received.NoLetterQueueFull Received.NoLetter }
-    ensures stored { node.new ≡ counted node.old (taskAt s q + emptyWord) }
+    ensures stored { node.new ≡ counted node.old (task_at s q + empty_word) }
 {
     let filled = is_filled(node, s, q, source);
     let at = layout::task_at(s, q);
@@ -82,7 +82,7 @@ fn in_vain(node: &mut [u32], s: Settings, q: usize, source: u32) -> Received
 // The first block of the letter at place k of task queue q.
 fn first_block(node: &[u32], s: Settings, q: usize, k: usize) -> u32
     requires { Holds s node.now q k }
-    ensures { result ≡ item_at (taskKind s) node.now (taskAt s q) k }
+    ensures { result ≡ item_at (task_kind s) node.now (task_at s q) k }
 {
     let at = layout::task_at(s, q);
     queues::item(node, queues::task_kind(s), at, k)
@@ -91,7 +91,7 @@ fn first_block(node: &[u32], s: Settings, q: usize, k: usize) -> u32
 // The words of the body of the letter that block b begins.
 fn body_length(node: &[u32], s: Settings, b: u32) -> u32
     requires { Whole s node.now b }
-    ensures { result ≡ length (drop headerWords (wordsFrom s node.now b)) }
+    ensures { result ≡ length (drop header_words (words_from s node.now b)) }
 {
     letters::told_length(node, s, b) - 5
 }
@@ -99,7 +99,7 @@ fn body_length(node: &[u32], s: Settings, b: u32) -> u32
 // The body of the letter that block b begins, n words, at the front of out; the rest of out stays.
 fn read_body(node: &[u32], s: Settings, b: u32, n: usize, out: &mut [u32])
     requires { Fits s node.now b n out.old }
-    ensures { out.new ≡ onto (drop headerWords (wordsFrom s node.now b)) out.old }
+    ensures { out.new ≡ onto (drop header_words (words_from s node.now b)) out.old }
 {
     letters::read(node, s, b, 5, &mut out[0..n]);
 }
@@ -118,7 +118,7 @@ fn empty(node: &mut [u32], s: Settings, q: usize, k: usize, b: u32, n: usize)
 // The letter at place k of task queue q goes to out, where there is room for its body.
 fn take_at(node: &mut [u32], s: Settings, q: usize, k: usize, out: &mut [u32]) -> Received
     requires { Holds s node.old q k }
-    ensures { record { answer = result; stretch = node.new; out = out.new } ≡ tookAt s node.old q 0 k out.old }
+    ensures { record { answer = result; stretch = node.new; out = out.new } ≡ took_at s node.old q 0 k out.old }
 {
     let b = first_block(node, s, q, k);
     let length = body_length(node, s, b);
@@ -158,8 +158,8 @@ fn collect(memory: &mut [u32], i: usize, q: usize, source: u32, out: &mut [u32])
 
 // Whether the source is 0 or a bound task.
 fn is_known(memory: &[u32], source: u32) -> bool
-    requires { nodesAt ≤ length memory.now }
-    ensures { result ≡ eqb source 0 || isBound (tableIn memory.now) source }
+    requires { nodes_at ≤ length memory.now }
+    ensures { result ≡ eqb source 0 || is_bound (table_in memory.now) source }
 {
     if source == 0 {
         return true;

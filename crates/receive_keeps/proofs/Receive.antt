@@ -1,8 +1,8 @@
 -- A SOUND MEMORY STAYS SOUND, done or refused; and what the call does to the machine. Assumes nothing.
 --     receive-sound     of a sound memory
---     receive-refused     a refusal leaves the machine, whatever the memory, and out
---     receive-done     a letter is taken; receive-none     or there is none
---     receive-fixed     size, settings and task table stay
+--     receive_refused     a refusal leaves the machine, whatever the memory, and out
+--     receive-done     a letter is taken; receive_none     or there is none
+--     receive_fixed     size, settings and task table stay
 use mathlib.Core.Path.{◌≡◌, refl, sym, ap, subst}
 use mathlib.Core.Bool.{true, ◌||◌}
 use mathlib.Core.List.{List}
@@ -14,27 +14,27 @@ use lib.ListN.{length}
 use Rattle.words.proofs.Lists.{split}
 use Rattle.words.proofs.Parts.{splice-part}
 use Rattle.settings.specs.declared.Settings.{Settings}
-use Rattle.layout.specs.Places.{emptyWord, nodeAt, nodeEnd, node, withNode, taskAt}
+use Rattle.layout.specs.Places.{empty_word, node_at, node_end, node, with_node, task_at}
 use Rattle.layout.proofs.MemoryRows.{stretch-fits}
 use Rattle.letters.specs.Letter.{onto}
 use Rattle.queues.specs.Moves.{counted}
-use Rattle.tasks.specs.Table.{node_of, queueOf, isBound}
-use Rattle.tasks.proofs.Laws.{seat-below}
+use Rattle.tasks.specs.Table.{node_of, queue_of, is_bound}
+use Rattle.tasks.proofs.Laws.{seat_below}
 use Rattle.taking.specs.declared.Found.{Found}
 use Rattle.taking.specs.declared.Found.TheVariants.{At, Nothing}
 use Rattle.taking.specs.Find.{found}
-use Rattle.sound.specs.Reading.{settingsIn, tableIn}
+use Rattle.sound.specs.Reading.{settings_in, table_in}
 use Rattle.sound.specs.Sound.{sound}
-use Rattle.sound.proofs.Gives.{gives-table, gives-sized}
+use Rattle.sound.proofs.Gives.{gives_table, gives_sized}
 use Rattle.receive.specs.declared.Received.{Received}
 use Rattle.receive.specs.declared.Received.TheVariants.{Done, NotSound, DestinationNotBound, SourceNotBound, NoLetter, NoLetterQueueFull, OutTooShort}
-use Rattle.receive.specs.Take.{Took, filled, inVain, source_of, body_of, emptied, tookAt, tookBy, took}
+use Rattle.receive.specs.Take.{Took, filled, in_vain, source_of, body_of, emptied, took_at, took_by, took}
 use Rattle.receive.specs.Outcome.{Outcome, collected, receive}
 use Rattle.machine.specs.Machine.{Machine}
 use Rattle.machine.specs.Spelled.{machine_of}
 use Rattle.receive_keeps.specs.Receives.{NoneAsked, Receives}
 use Rattle.machine.specs.Same.{Fixed, Unchanged}
-use Rattle.receive_keeps.proofs.Kept.{vain-sound, vain-fixed, vain-none, vain-stays, done-sound, done-fixed, done-receives}
+use Rattle.receive_keeps.proofs.Kept.{vain_sound, vain_fixed, vain_none, vain_stays, done-sound, done_fixed, done-receives}
 
 -- what is found, with its equation
 found? {ℓ} : {P : Type ℓ} (x : Found) → ((n : ℕ) → x ≡ At n → P) → (x ≡ Nothing → P) → P
@@ -70,21 +70,21 @@ record Keeps (memory : List ℕ) (i q source : ℕ) (out : List ℕ) (o : Outcom
 done_first : (a b c d : ℕ) → Done a b ≡ Done c d → a ≡ c
 done_first a b c d e = cc
 
-done-second : (a b c d : ℕ) → Done a b ≡ Done c d → b ≡ d
-done-second a b c d e = cc
+done_second : (a b c d : ℕ) → Done a b ≡ Done c d → b ≡ d
+done_second a b c d e = cc
 
 module _ (memory : List ℕ) (i q source : ℕ) (out : List ℕ) where
   abbrev s : Settings
-  s = settingsIn memory
+  s = settings_in memory
 
   abbrev l : List ℕ
-  l = node (settingsIn memory) memory i
+  l = node (settings_in memory) memory i
 
   abbrev whole : Received → List ℕ → List ℕ → Outcome
   whole r x o = record { answer = r; memory = x; out = o }
 
   abbrev outcome : Took → Outcome
-  outcome t = record { answer = t.answer; memory = withNode (settingsIn memory) memory i t.stretch; out = t.out }
+  outcome t = record { answer = t.answer; memory = with_node (settings_in memory) memory i t.stretch; out = t.out }
 
   abbrev K : Outcome → Type 0
   K o = Keeps memory i q source out o
@@ -100,97 +100,97 @@ module _ (memory : List ℕ) (i q source : ℕ) (out : List ℕ) where
       }
 
   module _ (e : sound memory ≡ true) (h : i < 6) (g : q < 64) where
-    keeps-vain : found s l (taskAt s q) source ≡ Nothing → (r : Received) → sort r ≡ 1 → K (whole r (withNode s memory i (counted l (taskAt s q + emptyWord))) out)
-    keeps-vain f r p =
+    keeps_vain : found s l (task_at s q) source ≡ Nothing → (r : Received) → sort r ≡ 1 → K (whole r (with_node s memory i (counted l (task_at s q + empty_word))) out)
+    keeps_vain f r p =
         record {
-          safe = λ z. vain-sound memory e i q h g;
-          fixed = vain-fixed memory e i q h g;
+          safe = λ z. vain_sound memory e i q h g;
+          fixed = vain_fixed memory e i q h g;
           done = λ a b z. absurd (omega (arith, p, ap sort z));
-          refused = λ z. (vain-stays memory e i q h g, refl);
-          vain = λ z. vain-none memory e i q h g source f;
+          refused = λ z. (vain_stays memory e i q h g, refl);
+          vain = λ z. vain_none memory e i q h g source f;
         }
 
-    module _ (n : ℕ) (f : found (settingsIn memory) (node (settingsIn memory) memory i) (taskAt (settingsIn memory) q) source ≡ At n) where
+    module _ (n : ℕ) (f : found (settings_in memory) (node (settings_in memory) memory i) (task_at (settings_in memory) q) source ≡ At n) where
       abbrev body : List ℕ
       body = body_of s l q source n
 
       abbrev after : List ℕ
-      after = withNode s memory i (emptied s l q source n)
+      after = with_node s memory i (emptied s l q source n)
 
       abbrev told : ℕ → ℕ → Type 0
       told a b = Receives (machine_of memory) (machine_of after) i q source a b out (onto body out)
 
-      keeps-done : K (whole (Done (source_of s l q source n) (length body)) after (onto body out))
-      keeps-done =
+      keeps_done : K (whole (Done (source_of s l q source n) (length body)) after (onto body out))
+      keeps_done =
           record {
             safe = λ z. done-sound memory e i q h g source n f;
-            fixed = done-fixed memory e i q h g source n f;
+            fixed = done_fixed memory e i q h g source n f;
             done = λ a b z.
                 subst (λ (x : ℕ). told x b) (done_first (source_of s l q source n) (length body) a b z)
-                (subst (λ (x : ℕ). told (source_of s l q source n) x) (done-second (source_of s l q source n) (length body) a b z) (done-receives memory e i q h g source n f out));
+                (subst (λ (x : ℕ). told (source_of s l q source n) x) (done_second (source_of s l q source n) (length body) a b z) (done-receives memory e i q h g source n f out));
             refused = λ z. absurd (z (source_of s l q source n) (length body) refl);
             vain = λ z. absurd (omega arith);
           }
 
-    keeps-took : K (outcome (took s l q source out))
-    unfolding took inVain tookAt
-    keeps-took =
-        found? (found s l (taskAt s q) source)
+    keeps_took : K (outcome (took s l q source out))
+    unfolding took in_vain took_at
+    keeps_took =
+        found? (found s l (task_at s q) source)
         (λ n f.
-        subst (λ (x : Found). K (outcome (tookBy s l q source x out))) (sym f)
+        subst (λ (x : Found). K (outcome (took_by s l q source x out))) (sym f)
         (split (leb (length (body_of s l q source n)) (length out))
-        (λ t. rw t (keeps-done n f))
+        (λ t. rw t (keeps_done n f))
         (λ t. rw t (subst (λ (x : List ℕ). K (whole OutTooShort x out)) (sym same) (keeps_same OutTooShort refl)))))
         (λ f.
-        subst (λ (x : Found). K (outcome (tookBy s l q source x out))) (sym f)
-        (split (filled s l q source) (λ t. rw t (keeps-vain f NoLetterQueueFull refl)) (λ t. rw t (keeps-vain f NoLetter refl))))
+        subst (λ (x : Found). K (outcome (took_by s l q source x out))) (sym f)
+        (split (filled s l q source) (λ t. rw t (keeps_vain f NoLetterQueueFull refl)) (λ t. rw t (keeps_vain f NoLetter refl))))
       where
-        same : withNode s memory i l ≡ memory
-        same = splice-part memory (nodeAt s i) (nodeEnd s i) (omega arith) (rw (gives-sized memory e).long (stretch-fits s i h))
+        same : with_node s memory i l ≡ memory
+        same = splice-part memory (node_at s i) (node_end s i) (omega arith) (rw (gives_sized memory e).long (stretch-fits s i h))
 
 module _ (memory : List ℕ) (destination source : ℕ) (out : List ℕ) where
   -- the destination's node and queue
   abbrev i : ℕ
-  i = node_of (tableIn memory) destination
+  i = node_of (table_in memory) destination
 
   abbrev q : ℕ
-  q = queueOf (tableIn memory) destination
+  q = queue_of (table_in memory) destination
 
-  keeps-receive : Keeps memory i q source out (receive memory destination source out)
+  keeps_receive : Keeps memory i q source out (receive memory destination source out)
   unfolding receive collected
-  keeps-receive =
+  keeps_receive =
       split (sound memory)
       (λ e. rw e
-      (split (isBound (tableIn memory) destination)
+      (split (is_bound (table_in memory) destination)
       (λ b. rw b
-      (split (eqb source 0 || isBound (tableIn memory) source)
+      (split (eqb source 0 || is_bound (table_in memory) source)
       (λ c. rw c
-      (let z = seat-below (tableIn memory) destination (gives-table memory e) b in
-      keeps-took memory i q source out e z.0 z.1))
+      (let z = seat_below (table_in memory) destination (gives_table memory e) b in
+      keeps_took memory i q source out e z.0 z.1))
       (λ c. rw c (keeps_same memory i q source out SourceNotBound refl))))
       (λ b. rw b (keeps_same memory i q source out DestinationNotBound refl))))
       (λ e. rw e (keeps_same memory i q source out NotSound refl))
 
   -- A SOUND MEMORY STAYS SOUND
   pub receive-sound : sound memory ≡ true → sound (receive memory destination source out).memory ≡ true
-  receive-sound e = keeps-receive.safe e
+  receive-sound e = keeps_receive.safe e
 
   -- REFUSED: the machine and out stay
-  pub receive-refused : ((a n : ℕ) → (receive memory destination source out).answer ≡ Done a n → ⊥)
+  pub receive_refused : ((a n : ℕ) → (receive memory destination source out).answer ≡ Done a n → ⊥)
       → Unchanged (machine_of memory) (machine_of (receive memory destination source out).memory) × ((receive memory destination source out).out ≡ out)
-  receive-refused n = keeps-receive.refused n
+  receive_refused n = keeps_receive.refused n
 
   -- DONE: a letter is taken from the destination's queue
   pub receive-done : (a n : ℕ) → (receive memory destination source out).answer ≡ Done a n
-      → Receives (machine_of memory) (machine_of (receive memory destination source out).memory) (node_of (tableIn memory) destination) (queueOf (tableIn memory) destination) source a n out
+      → Receives (machine_of memory) (machine_of (receive memory destination source out).memory) (node_of (table_in memory) destination) (queue_of (table_in memory) destination) source a n out
       (receive memory destination source out).out
-  receive-done a n e = keeps-receive.done a n e
+  receive-done a n e = keeps_receive.done a n e
 
   -- 'no such letter' is answered only where there is none
-  pub receive-none : ((receive memory destination source out).answer ≡ NoLetter) ⊎ ((receive memory destination source out).answer ≡ NoLetterQueueFull)
-      → NoneAsked (machine_of memory) (node_of (tableIn memory) destination) (queueOf (tableIn memory) destination) source
-  receive-none e = keeps-receive.vain (⊎_elim (λ z. ap sort z) (λ z. ap sort z) e)
+  pub receive_none : ((receive memory destination source out).answer ≡ NoLetter) ⊎ ((receive memory destination source out).answer ≡ NoLetterQueueFull)
+      → NoneAsked (machine_of memory) (node_of (table_in memory) destination) (queue_of (table_in memory) destination) source
+  receive_none e = keeps_receive.vain (⊎_elim (λ z. ap sort z) (λ z. ap sort z) e)
 
   -- the size, the settings and the task table stay
-  pub receive-fixed : Fixed memory (receive memory destination source out).memory
-  receive-fixed = keeps-receive.fixed
+  pub receive_fixed : Fixed memory (receive memory destination source out).memory
+  receive_fixed = keeps_receive.fixed

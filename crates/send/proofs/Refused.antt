@@ -5,9 +5,9 @@ use mathlib.Core.List.{List}
 use Prim.Native.Nat.{ℕ}
 use Rattle.sound.specs.Sound.{sound}
 use Rattle.posting.specs.declared.Sent.TheVariants.{NotSound}
-use Rattle.send.specs.Outcome.{refusedBy, send}
+use Rattle.send.specs.Outcome.{refused_by, send}
 
-pub not_sound : (memory : List ℕ) (source destination : ℕ) (body : List ℕ) → sound memory ≡ false
-    → refusedBy NotSound memory ≡ send memory source destination body
+pub not_sound_lem : (memory : List ℕ) (source destination : ℕ) (body : List ℕ) → sound memory ≡ false
+    → refused_by NotSound memory ≡ send memory source destination body
 unfolding send
-not_sound memory source destination body e = rw e
+not_sound_lem memory source destination body e = rw e

@@ -1,16 +1,16 @@
 -- What send answers and leaves, for any memory, tasks and body: 'Send', 'What comes back'.
 use Rattle.std.specs.Prelude.{Bool, cond, ◌&&◌, List, ℕ, ◌+◌, eqb, leb, length}
 use Rattle.settings.specs.declared.Settings.{Settings}
-use Rattle.layout.specs.Places.{node, withNode}
-use Rattle.layout.specs.Numbers.{headerWords, greatestBody}
-use Rattle.tasks.specs.Table.{node_of, queueOf, isBound}
+use Rattle.layout.specs.Places.{node, with_node}
+use Rattle.layout.specs.Numbers.{header_words, greatest_body}
+use Rattle.tasks.specs.Table.{node_of, queue_of, is_bound}
 use Rattle.blocks.specs.Chain.{needs}
-use Rattle.sound.specs.Reading.{settingsIn, tableIn}
+use Rattle.sound.specs.Reading.{settings_in, table_in}
 use Rattle.sound.specs.Sound.{sound}
 use Rattle.answers.specs.declared.Answer.{Answer}
-use Rattle.answers.specs.Numbers.{bare, done, notSound, firstNotBound, otherNotBound, bodyTooLong, tooFewBlocks, queueFull}
-use Rattle.letters.specs.Made.{letterOf}
-use Rattle.posting.specs.Letter.{headerOf}
+use Rattle.answers.specs.Numbers.{bare, done, not_sound, first_not_bound, other_not_bound, body_too_long, too_few_blocks, queue_full}
+use Rattle.letters.specs.Made.{letter_of}
+use Rattle.posting.specs.Letter.{header_of}
 use Rattle.posting.specs.Post.{posted}
 use Rattle.posting.specs.declared.Goal.{Goal}
 use Rattle.posting.specs.declared.Goal.TheVariants.{Task, Node}
@@ -20,57 +20,57 @@ use Rattle.posting.specs.declared.Sent.TheVariants.{Done, NotSound, SourceNotBou
 -- the document's number and values for each case: 'Send answers blocks taken'
 abbrev pub told : Sent → Answer
 told (Done blocks) = record { number = done; first = blocks; second = 0; third = 0 }
-told NotSound = bare notSound
-told SourceNotBound = bare firstNotBound
-told DestinationNotBound = bare otherNotBound
-told BodyTooLong = bare bodyTooLong
-told TooFewBlocks = bare tooFewBlocks
-told QueueFull = bare queueFull
+told NotSound = bare not_sound
+told SourceNotBound = bare first_not_bound
+told DestinationNotBound = bare other_not_bound
+told BodyTooLong = bare body_too_long
+told TooFewBlocks = bare too_few_blocks
+told QueueFull = bare queue_full
 
 -- what a send answers, and the memory after it
 pub record Outcome : Type 0 where
   pub answer : Sent
   pub memory : List ℕ
 
-abbrev pub refusedBy : Sent → List ℕ → Outcome
-refusedBy a memory = record { answer = a; memory = memory }
+abbrev pub refused_by : Sent → List ℕ → Outcome
+refused_by a memory = record { answer = a; memory = memory }
 
 -- 'body over 1,019, or needs over M blocks': of a body of n words
 unfoldable pub fits : Settings → ℕ → Bool
-fits s n = leb n greatestBody && leb (needs s (headerWords + n)) s.m
+fits s n = leb n greatest_body && leb (needs s (header_words + n)) s.m
 
 -- 'to the destination's task queue if on the same node, else to the send queue for that node'
-unfoldable pub goalOf : ℕ → ℕ → ℕ → Goal
-goalOf from to queue = cond (eqb from to) (Task queue) (Node to)
+unfoldable pub goal_of : ℕ → ℕ → ℕ → Goal
+goal_of from to queue = cond (eqb from to) (Task queue) (Node to)
 
 -- a letter's words posted in node i: 'a change to one node is made in that node's stretch alone'
-unfoldable pub postedIn : Settings → List ℕ → ℕ → Goal → List ℕ → Outcome
-postedIn s memory i goal words =
+unfoldable pub posted_in : Settings → List ℕ → ℕ → Goal → List ℕ → Outcome
+posted_in s memory i goal words =
     let p = posted s (node s memory i) goal words in
-    record { answer = p.answer; memory = withNode s memory i p.stretch }
+    record { answer = p.answer; memory = with_node s memory i p.stretch }
 
 module _ (memory : List ℕ) (source destination : ℕ) (body : List ℕ) where
   abbrev pub settings : Settings
-  settings = settingsIn memory
+  settings = settings_in memory
 
   -- the source's node, in which the blocks are taken, and the destination's
   abbrev pub home : ℕ
-  home = node_of (tableIn memory) source
+  home = node_of (table_in memory) source
 
   abbrev pub away : ℕ
-  away = node_of (tableIn memory) destination
+  away = node_of (table_in memory) destination
 
   unfoldable pub delivered : Outcome
   delivered =
-      postedIn settings memory home (goalOf home away (queueOf (tableIn memory) destination)) (letterOf (headerOf (tableIn memory) source destination) body)
+      posted_in settings memory home (goal_of home away (queue_of (table_in memory) destination)) (letter_of (header_of (table_in memory) source destination) body)
 
   -- 'Order: send 1, 2, 3, 4, 5, 6'
   unfoldable pub send : Outcome
   send =
       cond (sound memory)
-      (cond (isBound (tableIn memory) source)
-      (cond (isBound (tableIn memory) destination)
-      (cond (fits settings (length body)) delivered (refusedBy BodyTooLong memory))
-      (refusedBy DestinationNotBound memory))
-      (refusedBy SourceNotBound memory))
-      (refusedBy NotSound memory)
+      (cond (is_bound (table_in memory) source)
+      (cond (is_bound (table_in memory) destination)
+      (cond (fits settings (length body)) delivered (refused_by BodyTooLong memory))
+      (refused_by DestinationNotBound memory))
+      (refused_by SourceNotBound memory))
+      (refused_by NotSound memory)

@@ -1,10 +1,10 @@
 // Send: the call that takes blocks, writes a letter and appends it.
 ghost use Rattle.std.specs.Prelude.{◌≡◌, true, ◌+◌, length};
 ghost use Rattle.settings.specs.Range.{InRange};
-ghost use Rattle.layout.specs.Numbers.{headerWords};
-ghost use Rattle.letters.specs.Made.{letterOf};
+ghost use Rattle.layout.specs.Numbers.{header_words};
+ghost use Rattle.letters.specs.Made.{letter_of};
 ghost use Rattle.sound.specs.Sound.{sound};
-ghost use Rattle.send.specs.Outcome.{told, fits, goalOf, postedIn, send};
+ghost use Rattle.send.specs.Outcome.{told, fits, goal_of, posted_in, send};
 ghost use Rattle.send.specs.Asked.{Delivers};
 
 use answers::Answer;
@@ -26,7 +26,7 @@ fn body_fits(s: Settings, n: usize) -> bool
 
 // The queue for a letter, by the nodes of its two tasks and the destination's queue.
 fn goal_of(from: u32, to: u32, queue: u32) -> Goal
-    ensures { result ≡ goalOf from to queue }
+    ensures { result ≡ goal_of from to queue }
 {
     if from == to {
         Goal::Task(queue as usize)
@@ -37,8 +37,8 @@ fn goal_of(from: u32, to: u32, queue: u32) -> Goal
 
 // Posts a letter in the source's node: its stretch alone is lent.
 fn send_letter(memory: &mut [u32], s: Settings, header: Header, goal: Goal, body: &[u32]) -> Sent
-    requires { Delivers s memory.old header.from goal (headerWords + length body.now) }
-    ensures { record { answer = result; memory = memory.new } ≡ postedIn s memory.old header.from goal (letterOf header body.now) }
+    requires { Delivers s memory.old header.from goal (header_words + length body.now) }
+    ensures { record { answer = result; memory = memory.new } ≡ posted_in s memory.old header.from goal (letter_of header body.now) }
 {
     let a = layout::node_at(s, header.from as usize);
     let e = a + layout::node_size(s);

@@ -1,7 +1,7 @@
 // The five settings: a type each, with its least and greatest value and a constructor that refuses.
 ghost use Rattle.std.specs.Prelude.{◌≡◌, cond};
-ghost use Rattle.settings.specs.Limits.{within, blockWords, nodeBlocks, queueLength};
-ghost use Rattle.settings.specs.Made.{madeSettings};
+ghost use Rattle.settings.specs.Limits.{within, block_words, node_blocks, queue_length};
+ghost use Rattle.settings.specs.Made.{made_settings};
 
 // Whether x lies between the two, both included.
 fn is_within(least: u32, greatest: u32, x: u32) -> bool
@@ -31,7 +31,7 @@ impl BlockWords {
     pub const MAX: u32 = 64;
 
     pub fn new(x: u32) -> MadeBlockWords
-        ensures { result ≡ cond (within blockWords x) (MadeBlockWords.Made (record { value = x })) MadeBlockWords.Refused }
+        ensures { result ≡ cond (within block_words x) (MadeBlockWords.Made (record { value = x })) MadeBlockWords.Refused }
     {
         if is_within(Self::MIN, Self::MAX, x) {
             MadeBlockWords::Made(BlockWords { value: x as usize })
@@ -59,7 +59,7 @@ impl NodeBlocks {
     pub const MAX: u32 = 1024;
 
     pub fn new(x: u32) -> MadeNodeBlocks
-        ensures { result ≡ cond (within nodeBlocks x) (MadeNodeBlocks.Made (record { value = x })) MadeNodeBlocks.Refused }
+        ensures { result ≡ cond (within node_blocks x) (MadeNodeBlocks.Made (record { value = x })) MadeNodeBlocks.Refused }
     {
         if is_within(Self::MIN, Self::MAX, x) {
             MadeNodeBlocks::Made(NodeBlocks { value: x as usize })
@@ -87,7 +87,7 @@ impl SendLength {
     pub const MAX: u32 = 255;
 
     pub fn new(x: u32) -> MadeSendLength
-        ensures { result ≡ cond (within queueLength x) (MadeSendLength.Made (record { value = x })) MadeSendLength.Refused }
+        ensures { result ≡ cond (within queue_length x) (MadeSendLength.Made (record { value = x })) MadeSendLength.Refused }
     {
         if is_within(Self::MIN, Self::MAX, x) {
             MadeSendLength::Made(SendLength { value: x as usize })
@@ -115,7 +115,7 @@ impl AcknowledgeLength {
     pub const MAX: u32 = 255;
 
     pub fn new(x: u32) -> MadeAcknowledgeLength
-        ensures { result ≡ cond (within queueLength x) (MadeAcknowledgeLength.Made (record { value = x })) MadeAcknowledgeLength.Refused }
+        ensures { result ≡ cond (within queue_length x) (MadeAcknowledgeLength.Made (record { value = x })) MadeAcknowledgeLength.Refused }
     {
         if is_within(Self::MIN, Self::MAX, x) {
             MadeAcknowledgeLength::Made(AcknowledgeLength { value: x as usize })
@@ -143,7 +143,7 @@ impl TaskLength {
     pub const MAX: u32 = 255;
 
     pub fn new(x: u32) -> MadeTaskLength
-        ensures { result ≡ cond (within queueLength x) (MadeTaskLength.Made (record { value = x })) MadeTaskLength.Refused }
+        ensures { result ≡ cond (within queue_length x) (MadeTaskLength.Made (record { value = x })) MadeTaskLength.Refused }
     {
         if is_within(Self::MIN, Self::MAX, x) {
             MadeTaskLength::Made(TaskLength { value: x as usize })
@@ -171,7 +171,7 @@ pub enum MadeSettings {
 
 impl Settings {
     pub fn new(b: u32, m: u32, s: u32, a: u32, t: u32) -> MadeSettings
-        ensures { result ≡ madeSettings b m s a t }
+        ensures { result ≡ made_settings b m s a t }
     {
         let MadeBlockWords::Made(words) = BlockWords::new(b) else {
             return MadeSettings::Refused;

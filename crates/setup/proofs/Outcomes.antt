@@ -7,10 +7,10 @@ use lib.ListN.{length}
 use borrow.Author.Tests.{eq-eqb, ne_eqb}
 use Rattle.settings.specs.declared.Settings.{Settings}
 use Rattle.settings.specs.Range.{in_range}
-use Rattle.layout.specs.Places.{memorySize}
-use Rattle.tasks.specs.Table.{rightTable}
-use Rattle.setup.specs.Fresh.{freshMemory}
-use Rattle.setup.specs.Outcome.{Outcome, setUp}
+use Rattle.layout.specs.Places.{memory_size}
+use Rattle.tasks.specs.Table.{right_table}
+use Rattle.setup.specs.Fresh.{fresh_memory}
+use Rattle.setup.specs.Outcome.{Outcome, set_up}
 use Rattle.setup.specs.declared.SetUp.{SetUp}
 use Rattle.setup.specs.declared.SetUp.TheVariants.{Done, SettingOutOfRange, WrongTable, OtherSize}
 
@@ -18,20 +18,20 @@ abbrev pub left : SetUp → List ℕ → Outcome
 left a m = record { answer = a; memory = m }
 
 module _ (s : Settings) (t m : List ℕ) where
-  pub out-setting : in_range s ≡ false → left SettingOutOfRange m ≡ setUp s t m
-  unfolding setUp
-  out-setting e = rw e
+  pub out_setting : in_range s ≡ false → left SettingOutOfRange m ≡ set_up s t m
+  unfolding set_up
+  out_setting e = rw e
 
   module _ (r : in_range s ≡ true) where
-    pub out-table : rightTable t ≡ false → left WrongTable m ≡ setUp s t m
-    unfolding setUp
+    pub out-table : right_table t ≡ false → left WrongTable m ≡ set_up s t m
+    unfolding set_up
     out-table e = rw (r, e)
 
-    module _ (w : rightTable t ≡ true) where
-      pub out-size : (length m ≡ memorySize s → ⊥) → left OtherSize m ≡ setUp s t m
-      unfolding setUp
-      out-size e = rw (r, w, ne_eqb (length m) (memorySize s) e)
+    module _ (w : right_table t ≡ true) where
+      pub out-size : (length m ≡ memory_size s → ⊥) → left OtherSize m ≡ set_up s t m
+      unfolding set_up
+      out-size e = rw (r, w, ne_eqb (length m) (memory_size s) e)
 
-      pub out-done : (n : List ℕ) → length m ≡ memorySize s → n ≡ freshMemory s t → left Done n ≡ setUp s t m
-      unfolding setUp
-      out-done n e f = rw (r, w, eq-eqb (length m) (memorySize s) e, f)
+      pub out-done : (n : List ℕ) → length m ≡ memory_size s → n ≡ fresh_memory s t → left Done n ≡ set_up s t m
+      unfolding set_up
+      out-done n e f = rw (r, w, eq-eqb (length m) (memory_size s) e, f)

@@ -1,11 +1,11 @@
 // Set up: the first of the five calls.
 ghost use Rattle.std.specs.Prelude.{◌≡◌, ◌++◌, ◌*◌, length, take, drop, replicate};
-ghost use Rattle.settings.specs.Made.{settingsOf};
+ghost use Rattle.settings.specs.Made.{settings_of};
 ghost use Rattle.settings.specs.Range.{InRange};
-ghost use Rattle.layout.specs.Places.{tableWords, table_at, nodesAt, nodeSize};
+ghost use Rattle.layout.specs.Places.{table_words, table_at, nodes_at, node_size};
 ghost use Rattle.layout.specs.Asked.{Sized};
-ghost use Rattle.setup.specs.Fresh.{freshHead, freshNode, freshNodes, freshMemory};
-ghost use Rattle.setup.specs.Outcome.{setUp, told};
+ghost use Rattle.setup.specs.Fresh.{fresh_head, fresh_node, fresh_nodes, fresh_memory};
+ghost use Rattle.setup.specs.Outcome.{set_up, told};
 
 use answers::Answer;
 use settings::{MadeSettings, Settings};
@@ -22,7 +22,7 @@ pub enum SetUp {
 fn lay_head(head: &mut [u32], s: Settings)
     requires in_range { InRange s }
     requires head_value { head.old ≡ replicate table_at 0 }
-    ensures { head.new ≡ freshHead s }
+    ensures { head.new ≡ fresh_head s }
 {
     head[0] = s.b as u32;
     head[1] = s.m as u32;
@@ -34,8 +34,8 @@ fn lay_head(head: &mut [u32], s: Settings)
 // The free list, in a stretch of zeroes: the first free block, 1, then a link every B words; that of the last block stays 0.
 fn lay_node(node: &mut [u32], s: Settings)
     requires in_range { InRange s }
-    requires node_value { node.old ≡ replicate (nodeSize s) 0 }
-    ensures { node.new ≡ freshNode s }
+    requires node_value { node.old ≡ replicate (node_size s) 0 }
+    ensures { node.new ≡ fresh_node s }
 {
     node[0] = 1;
     let mut at = layout::link_at(s, 1);
@@ -50,8 +50,8 @@ fn lay_node(node: &mut [u32], s: Settings)
 // The six nodes' stretches, in a memory that is zeroes from the first of them on.
 fn lay_nodes(memory: &mut [u32], s: Settings)
     requires sized { Sized s memory.old }
-    requires memory_value { drop nodesAt memory.old ≡ replicate (6 * nodeSize s) 0 }
-    ensures { memory.new ≡ take nodesAt memory.old ++ freshNodes s 6 }
+    requires memory_value { drop nodes_at memory.old ≡ replicate (6 * node_size s) 0 }
+    ensures { memory.new ≡ take nodes_at memory.old ++ fresh_nodes s 6 }
 {
     let words = layout::node_size(s);
     let mut i = 0;
@@ -66,8 +66,8 @@ fn lay_nodes(memory: &mut [u32], s: Settings)
 // Every word of a memory fresh from set up: all are cleared at one go, then those that are not 0 are laid.
 fn lay_memory(memory: &mut [u32], s: Settings, table: &[u32])
     requires sized { Sized s memory.old }
-    requires table_len { length table.now ≡ tableWords }
-    ensures { memory.new ≡ freshMemory s table.now }
+    requires table_len { length table.now ≡ table_words }
+    ensures { memory.new ≡ fresh_memory s table.now }
 {
     words::clear(memory);
     lay_head(&mut memory[0..24], s);
@@ -77,7 +77,7 @@ fn lay_memory(memory: &mut [u32], s: Settings, table: &[u32])
 
 // Set up, for any five numbers, any table and any memory.
 pub fn set_up(b: u32, m: u32, s: u32, a: u32, t: u32, table: &[u32], memory: &mut [u32]) -> SetUp
-    ensures { record { answer = result; memory = memory.new } ≡ setUp (settingsOf b m s a t) table.now memory.old }
+    ensures { record { answer = result; memory = memory.new } ≡ set_up (settings_of b m s a t) table.now memory.old }
 {
     let MadeSettings::Made(settings) = Settings::new(b, m, s, a, t) else {
         return SetUp::SettingOutOfRange;

@@ -2,17 +2,17 @@
 ghost use Rattle.std.specs.Prelude.{◌≡◌, ◌<◌, ◌≤◌, length};
 ghost use Rattle.layout.specs.Asked.{Stretch};
 ghost use Rattle.queues.specs.Queue.{Queue, Placed, start, items, contents};
-ghost use Rattle.sound.specs.Queues.{inShape};
+ghost use Rattle.sound.specs.Queues.{in_shape};
 ghost use Rattle.shapes.specs.Shape.{
   zeroes,
-  clearOutside,
-  itemsWithin,
-  rightPost,
-  rightSeat,
-  rightSends,
-  rightAcks,
-  rightSeats,
-  rightStretch,
+  clear_outside,
+  items_within,
+  right_post,
+  right_seat,
+  right_sends,
+  right_acks,
+  right_seats,
+  right_stretch,
 };
 
 use queues::Kind;
@@ -37,7 +37,7 @@ fn is_clear(node: &[u32], k: Kind, q: usize, first: usize, count: usize) -> bool
     requires placed { Placed k node.now q }
     requires first_value { (first ≡ start k node.now q) × (first < k.slots) }
     requires count_value { (count ≡ items k node.now q) × (count ≤ k.slots) }
-    ensures { result ≡ clearOutside k node.now q }
+    ensures { result ≡ clear_outside k node.now q }
 {
     let base = q + k.head;
     // a queue with no items: all its slots are one run
@@ -57,7 +57,7 @@ fn is_clear(node: &[u32], k: Kind, q: usize, first: usize, count: usize) -> bool
 // Whether the start is below the queue's length, the items at most it, and the slots outside the items 0.
 fn is_in_shape(node: &[u32], k: Kind, q: usize) -> bool
     requires { Placed k node.now q }
-    ensures { result ≡ inShape k node.now q }
+    ensures { result ≡ in_shape k node.now q }
 {
     let first = node[q] as usize;
     let count = node[q + 1] as usize;
@@ -73,7 +73,7 @@ fn is_in_shape(node: &[u32], k: Kind, q: usize) -> bool
 // Whether the items lie between the two, both included.
 fn are_within(node: &[u32], k: Kind, q: usize, least: usize, most: usize) -> bool
     requires { Queue k node.now q }
-    ensures { result ≡ itemsWithin least most (contents k node.now q) }
+    ensures { result ≡ items_within least most (contents k node.now q) }
 {
     let count = queues::items_of(node, k, q);
     let mut i: usize = 0;
@@ -93,7 +93,7 @@ fn are_within(node: &[u32], k: Kind, q: usize, least: usize, most: usize) -> boo
 // Whether a send or acknowledge queue is right; `own`: it is the node's queue to itself.
 fn is_right_post(node: &[u32], k: Kind, q: usize, m: usize, own: bool) -> bool
     requires { Placed k node.now q }
-    ensures { result ≡ rightPost k node.now q m own }
+    ensures { result ≡ right_post k node.now q m own }
 {
     if !is_in_shape(node, k, q) {
         return false;
@@ -108,7 +108,7 @@ fn is_right_post(node: &[u32], k: Kind, q: usize, m: usize, own: bool) -> bool
 fn is_right_seat(node: &[u32], k: Kind, q: usize, m: usize, task: u8) -> bool
     requires placed { Placed k node.now q }
     requires le_head { 3 ≤ k.head }
-    ensures { result ≡ rightSeat k node.now q m task }
+    ensures { result ≡ right_seat k node.now q m task }
 {
     if !is_in_shape(node, k, q) {
         return false;
@@ -131,7 +131,7 @@ fn is_right_seat(node: &[u32], k: Kind, q: usize, m: usize, task: u8) -> bool
 // Whether the six send queues of node i are right.
 fn are_right_sends(node: &[u32], s: Settings, i: usize) -> bool
     requires { Stretch s node.now }
-    ensures { result ≡ rightSends s node.now i }
+    ensures { result ≡ right_sends s node.now i }
 {
     let kind = queues::send_kind(s);
     let mut k: usize = 0;
@@ -148,7 +148,7 @@ fn are_right_sends(node: &[u32], s: Settings, i: usize) -> bool
 // Whether the six acknowledge queues of node i are right.
 fn are_right_acks(node: &[u32], s: Settings, i: usize) -> bool
     requires { Stretch s node.now }
-    ensures { result ≡ rightAcks s node.now i }
+    ensures { result ≡ right_acks s node.now i }
 {
     let kind = queues::ack_kind(s);
     let mut k: usize = 0;
@@ -166,7 +166,7 @@ fn are_right_acks(node: &[u32], s: Settings, i: usize) -> bool
 fn are_right_seats(node: &[u32], s: Settings, seats: &[u8; 384], i: usize) -> bool
     requires stretch { Stretch s node.now }
     requires i_bound { i < 6 }
-    ensures { result ≡ rightSeats s node.now i seats.now }
+    ensures { result ≡ right_seats s node.now i seats.now }
 {
     let kind = queues::task_kind(s);
     let mut q: usize = 0;
@@ -185,7 +185,7 @@ fn are_right_seats(node: &[u32], s: Settings, seats: &[u8; 384], i: usize) -> bo
 pub fn is_right_stretch(node: &[u32], s: Settings, seats: &[u8; 384], i: usize) -> bool
     requires stretch { Stretch s node.now }
     requires i_bound { i < 6 }
-    ensures { result ≡ rightStretch s node.now i seats.now }
+    ensures { result ≡ right_stretch s node.now i seats.now }
 {
     if !are_right_sends(node, s, i) {
         return false;

@@ -4,17 +4,17 @@ use mathlib.Core.List.{List, [], ◌∷◌, ◌++◌}
 use Prim.Native.Nat.{ℕ, zero, suc}
 use lib.ListN.{replicate}
 use Rattle.settings.specs.declared.Settings.{Settings}
-use Rattle.settings.specs.Made.{settingsOf}
-use Rattle.layout.specs.Places.{sendAt, taskAt, blocksAt, block_at, nodeSize, nodeAt}
-use Rattle.tasks.specs.Table.{holdsNone, isBound}
+use Rattle.settings.specs.Made.{settings_of}
+use Rattle.layout.specs.Places.{send_at, task_at, blocks_at, block_at, node_size, node_at}
+use Rattle.tasks.specs.Table.{holds_none, is_bound}
 use Rattle.blocks.specs.Chain.{list, text}
 use Rattle.queues.specs.Queue.{run}
 use Rattle.queues.specs.Items.{live}
-use Rattle.sound.specs.Letters.{wordsFrom}
-use Rattle.showing.specs.List.{handedOver, shown, fromTask, fromSend, waiting, fromNodes, ofTask, ofTasks, listed, laidOut}
+use Rattle.sound.specs.Letters.{words_from}
+use Rattle.showing.specs.List.{handed_over, shown, from_task, from_send, waiting, from_nodes, of_task, of_tasks, listed, laid_out}
 
 abbrev s : Settings
-s = settingsOf 8 2 2 2 2
+s = settings_of 8 2 2 2 2
 
 -- so many unbound ids
 abbrev unbound : ℕ → List ℕ
@@ -45,7 +45,7 @@ memory stage =
     ++ ((255 ∷ 0 ∷ 0 ∷ 0 ∷ 1 ∷ 0 ∷ unbound 253) ++ (first ++ (second ++ (idle ++ (idle ++ (idle ++ idle)))))))
 
 -- stage 3, 'it has been handed over': the first letter is shown in the task queue alone; no other stage leaves it out
-worked : (laidOut (listed s (memory 3)) ≡ 2 ∷ 1 ∷ 1 ∷ 1 ∷ 1 ∷ 1 ∷ 2 ∷ 1 ∷ 2 ∷ 0 ∷ 2 ∷ 0 ∷ [])
-    × (laidOut (listed s (memory 1)) ≡ 2 ∷ 1 ∷ 1 ∷ 1 ∷ 1 ∷ 1 ∷ 2 ∷ 1 ∷ 2 ∷ 0 ∷ 1 ∷ 1 ∷ 2 ∷ 1 ∷ 2 ∷ 0 ∷ 2 ∷ 0 ∷ [])
-unfolding laidOut ofTasks ofTask fromTask fromSend fromNodes waiting handedOver shown live run holdsNone isBound wordsFrom list text nodeAt nodeSize sendAt taskAt block_at blocksAt
+worked : (laid_out (listed s (memory 3)) ≡ 2 ∷ 1 ∷ 1 ∷ 1 ∷ 1 ∷ 1 ∷ 2 ∷ 1 ∷ 2 ∷ 0 ∷ 2 ∷ 0 ∷ [])
+    × (laid_out (listed s (memory 1)) ≡ 2 ∷ 1 ∷ 1 ∷ 1 ∷ 1 ∷ 1 ∷ 2 ∷ 1 ∷ 2 ∷ 0 ∷ 1 ∷ 1 ∷ 2 ∷ 1 ∷ 2 ∷ 0 ∷ 2 ∷ 0 ∷ [])
+unfolding laid_out of_tasks of_task from_task from_send from_nodes waiting handed_over shown live run holds_none is_bound words_from list text node_at node_size send_at task_at block_at blocks_at
 worked = (refl, refl)

@@ -5,20 +5,20 @@ use Prim.Native.Nat.{ℕ, ◌+◌, ◌-◌, ◌≤◌, ◌<◌}
 use native.Mathlib.Omega.{arith}
 use Rattle.words.specs.Words.{part}
 use Rattle.settings.specs.declared.Settings.{Settings}
-use Rattle.layout.specs.Places.{nodes, nodeSize, nodeAt, node}
-use Rattle.layout.specs.Numbers.{headerWords, sourceTaskWord, lengthWord}
+use Rattle.layout.specs.Places.{nodes, node_size, node_at, node}
+use Rattle.layout.specs.Numbers.{header_words, source_task_word, length_word}
 use Rattle.layout.specs.Asked.{Stretch, Sized}
 use Rattle.words.proofs.Parts.{length_part}
 use Rattle.layout.proofs.MemoryRows.{stretch-fits}
 use Rattle.letters.specs.Letter.{word}
 use Rattle.letters.specs.Asked.{Lies}
-use Rattle.sound.specs.Letters.{toldLength}
-use Rattle.sound.proofs.Right.{right-least, right-lies, right-word, right-told}
+use Rattle.sound.specs.Letters.{told_length}
+use Rattle.sound.proofs.Right.{right_least, right_lies, right_word, right_told}
 use Rattle.showing.specs.List.{word_in, shown}
 use Rattle.showing.specs.Asked.{Begins}
 
 -- the part that is lent is node i's stretch
-pub node-part : (s : Settings) (memory : List ℕ) (i a size : ℕ) → a ≡ nodeAt s i → size ≡ nodeSize s → part memory a (a + size) ≡ node s memory i
+pub node-part : (s : Settings) (memory : List ℕ) (i a size : ℕ) → a ≡ node_at s i → size ≡ node_size s → part memory a (a + size) ≡ node s memory i
 node-part s memory i a size ea es = ap₂ (λ (k z : ℕ). part memory k (k + z)) ea es
 
 -- node i's stretch of a memory that is as long as the settings say
@@ -26,7 +26,7 @@ sized-stretch : (s : Settings) (memory : List ℕ) → Sized s memory → (i : �
 sized-stretch s memory z i h =
     record {
       range = z.range;
-      long = length_part memory (nodeAt s i) (nodeAt s i + nodeSize s) (omega arith) (omega (arith, stretch-fits s i h, z.long)) ∙ omega arith;
+      long = length_part memory (node_at s i) (node_at s i + node_size s) (omega arith) (omega (arith, stretch-fits s i h, z.long)) ∙ omega arith;
     }
 
 -- ---- a letter
@@ -37,23 +37,23 @@ module _ (s : Settings) (memory : List ℕ) (i b : ℕ) (g : Begins s memory i b
   st : Stretch s w
   st = sized-stretch s memory g.sized i g.there
 
-  begins-least : headerWords ≤ toldLength s w b
-  begins-least = right-least s w st b g.ends g.long
+  begins-least : header_words ≤ told_length s w b
+  begins-least = right_least s w st b g.ends g.long
 
-  pub begins-lies : (k : ℕ) → k < headerWords → Lies s w (k + 1) b
-  begins-lies k h = right-lies s w st b g.ends g.long (k + 1) (omega (arith, begins-least))
+  pub begins-lies : (k : ℕ) → k < header_words → Lies s w (k + 1) b
+  begins-lies k h = right_lies s w st b g.ends g.long (k + 1) (omega (arith, begins-least))
 
-  pub begins-word : (k : ℕ) → k < headerWords → word s w b k ≡ word_in s memory i b k
-  begins-word k h = right-word s w st b g.ends g.long k (omega (arith, begins-least))
+  pub begins-word : (k : ℕ) → k < header_words → word s w b k ≡ word_in s memory i b k
+  begins-word k h = right_word s w st b g.ends g.long k (omega (arith, begins-least))
 
-  begins-told : word_in s memory i b lengthWord ≡ toldLength s w b
-  begins-told = sym (begins-word lengthWord (omega arith)) ∙ right-told s w st b g.ends g.long
+  begins-told : word_in s memory i b length_word ≡ told_length s w b
+  begins-told = sym (begins-word length_word (omega arith)) ∙ right_told s w st b g.ends g.long
 
   -- what the list shows of it
-  pub shown-is : (task place source long : ℕ) → source ≡ word_in s memory i b sourceTaskWord → long ≡ word_in s memory i b lengthWord
-      → record { destination = task; source = source; place = place; holder = i; block = b; body = long - headerWords } ≡ shown s memory task place i b
+  pub shown_is : (task place source long : ℕ) → source ≡ word_in s memory i b source_task_word → long ≡ word_in s memory i b length_word
+      → record { destination = task; source = source; place = place; holder = i; block = b; body = long - header_words } ≡ shown s memory task place i b
   unfolding shown
-  shown-is task place source long e f = rw (e, f, begins-told)
+  shown_is task place source long e f = rw (e, f, begins-told)
 
-  pub told-least : (long : ℕ) → long ≡ word_in s memory i b lengthWord → headerWords ≤ long
+  pub told-least : (long : ℕ) → long ≡ word_in s memory i b length_word → header_words ≤ long
   told-least long f = omega (arith, f ∙ begins-told, begins-least)

@@ -8,11 +8,11 @@ use lib.ListN.{drop}
 use borrow.Author.Tests.{eq-eqb, ne_eqb}
 use Rattle.words.proofs.Lists.{split}
 use Rattle.settings.specs.declared.Settings.{Settings}
-use Rattle.layout.specs.Places.{sendAt, node}
+use Rattle.layout.specs.Places.{send_at, node}
 use Rattle.queues.specs.declared.Kind.{Kind}
-use Rattle.queues.specs.Queue.{sendKind, items, run}
-use Rattle.sound.specs.Reading.{stageOf, other_of}
-use Rattle.showing.specs.List.{handedOver, waiting}
+use Rattle.queues.specs.Queue.{send_kind, items, run}
+use Rattle.sound.specs.Reading.{stage_of, other_of}
+use Rattle.showing.specs.List.{handed_over, waiting}
 
 -- ---- a run without its first item
 run-rest : (k : Kind) (w : List ℕ) (q n : ℕ) → drop 1 (run k w q 0 n) ≡ run k w q 1 (n - 1)
@@ -21,28 +21,28 @@ run-rest k w q zero = refl
 run-rest k w q (suc n) = let e : n ≡ suc n - 1 = omega arith in ap (run k w q 1) e
 
 -- what waits is the run behind the items that are left out
-pub waiting-run : (s : Settings) (memory : List ℕ) (i j f : ℕ) → f ≡ cond (handedOver memory i j) 1 0
-    → waiting s memory i j ≡ run (sendKind s) (node s memory j) (sendAt s i) f (items (sendKind s) (node s memory j) (sendAt s i) - f)
+pub waiting-run : (s : Settings) (memory : List ℕ) (i j f : ℕ) → f ≡ cond (handed_over memory i j) 1 0
+    → waiting s memory i j ≡ run (send_kind s) (node s memory j) (send_at s i) f (items (send_kind s) (node s memory j) (send_at s i) - f)
 unfolding waiting
 waiting-run s memory i j f e =
-    let n : ℕ = items (sendKind s) (node s memory j) (sendAt s i) in
-    split (handedOver memory i j)
-    (λ t. let d : f ≡ 1 = rw t at e in rw (t, d) (run-rest (sendKind s) (node s memory j) (sendAt s i) n))
+    let n : ℕ = items (send_kind s) (node s memory j) (send_at s i) in
+    split (handed_over memory i j)
+    (λ t. let d : f ≡ 1 = rw t at e in rw (t, d) (run-rest (send_kind s) (node s memory j) (send_at s i) n))
     (λ t.
     let d : f ≡ 0 = rw t at e in
     let z : n ≡ n - 0 = omega arith in
-    rw (t, d) (ap (run (sendKind s) (node s memory j) (sendAt s i) 0) z))
+    rw (t, d) (ap (run (send_kind s) (node s memory j) (send_at s i) 0) z))
 
 -- ---- the items that are left out
 module _ (memory : List ℕ) (i j : ℕ) where
-  pub out-stage : (stageOf memory i ≡ 3 → ⊥) → ◌≡◌ {A = ℕ} 0 (cond (handedOver memory i j) 1 0)
-  unfolding handedOver
-  out-stage h = rw (ne_eqb (stageOf memory i) 3 h)
+  pub out-stage : (stage_of memory i ≡ 3 → ⊥) → ◌≡◌ {A = ℕ} 0 (cond (handed_over memory i j) 1 0)
+  unfolding handed_over
+  out-stage h = rw (ne_eqb (stage_of memory i) 3 h)
 
-  pub out-other : stageOf memory i ≡ 3 → (other_of memory i ≡ j → ⊥) → ◌≡◌ {A = ℕ} 0 (cond (handedOver memory i j) 1 0)
-  unfolding handedOver
-  out-other e h = rw (eq-eqb (stageOf memory i) 3 e, ne_eqb (other_of memory i) j h)
+  pub out_other : stage_of memory i ≡ 3 → (other_of memory i ≡ j → ⊥) → ◌≡◌ {A = ℕ} 0 (cond (handed_over memory i j) 1 0)
+  unfolding handed_over
+  out_other e h = rw (eq-eqb (stage_of memory i) 3 e, ne_eqb (other_of memory i) j h)
 
-  pub out_one : stageOf memory i ≡ 3 → other_of memory i ≡ j → ◌≡◌ {A = ℕ} 1 (cond (handedOver memory i j) 1 0)
-  unfolding handedOver
-  out_one e f = rw (eq-eqb (stageOf memory i) 3 e, eq-eqb (other_of memory i) j f)
+  pub out_one : stage_of memory i ≡ 3 → other_of memory i ≡ j → ◌≡◌ {A = ℕ} 1 (cond (handed_over memory i j) 1 0)
+  unfolding handed_over
+  out_one e f = rw (eq-eqb (stage_of memory i) 3 e, eq-eqb (other_of memory i) j f)

@@ -1,10 +1,10 @@
 // What the list shows of a letter, which item it leaves out, and the words that it reads in a node's own stretch.
 ghost use Rattle.std.specs.Prelude.{◌≡◌, cond, ◌≤◌, ◌<◌, length};
-ghost use Rattle.layout.specs.Places.{nodes, nodesAt, node};
-ghost use Rattle.layout.specs.Numbers.{headerWords};
+ghost use Rattle.layout.specs.Places.{nodes, nodes_at, node};
+ghost use Rattle.layout.specs.Numbers.{header_words};
 ghost use Rattle.layout.specs.Asked.{Sized};
 ghost use Rattle.queues.specs.Queue.{Queue, items, item_at};
-ghost use Rattle.showing.specs.List.{word_in, shown, handedOver};
+ghost use Rattle.showing.specs.List.{word_in, shown, handed_over};
 ghost use Rattle.showing.specs.Asked.{Begins};
 
 use queues::Kind;
@@ -24,7 +24,7 @@ pub struct Shown {
 // Word k of the header of the letter that block b begins in node i.
 pub fn word_in(memory: &[u32], s: Settings, i: u32, b: u32, k: usize) -> u32
     requires begins { Begins s memory.now i b }
-    requires k_lt_header_words { k < headerWords }
+    requires k_lt_header_words { k < header_words }
     ensures { result ≡ word_in s memory.now i b k }
 {
     let a = layout::node_at(s, i as usize);
@@ -76,9 +76,9 @@ pub fn shown_at(memory: &[u32], s: Settings, task: u32, place: u32, i: u32, b: u
 
 // How many items of node j's send queue for node i are left out: the first, where it has been handed over.
 pub fn left_out(memory: &[u32], i: u32, j: u32) -> usize
-    requires nodes_at_in_bounds { nodesAt ≤ length memory.now }
+    requires nodes_at_in_bounds { nodes_at ≤ length memory.now }
     requires i_lt_nodes { i < nodes }
-    ensures { result ≡ cond (handedOver memory.now i j) 1 0 }
+    ensures { result ≡ cond (handed_over memory.now i j) 1 0 }
 {
     let at = 6 + i as usize * 3;
     if memory[at] != 3 {

@@ -13,13 +13,13 @@ use Rattle.words.specs.Words.{all}
 use Rattle.words.proofs.Lists.{split, and-true}
 use Rattle.settings.specs.declared.Settings.{Settings}
 use Rattle.settings.specs.Range.{InRange}
-use Rattle.layout.specs.Numbers.{headerWords, greatestLength, lengthWord}
+use Rattle.layout.specs.Numbers.{header_words, greatest_length, length_word}
 use Rattle.layout.specs.Asked.{Stretch}
 use Rattle.blocks.specs.Chain.{needs, link, chain, after, list, text, Within}
 use Rattle.letters.specs.Letter.{word, told, letter}
 use Rattle.letters.specs.Asked.{Lies}
 use Rattle.letters.proofs.Laws.{word-letter}
-use Rattle.sound.specs.Letters.{chainFrom, endsWell, toldLength, wordsFrom, rightLength}
+use Rattle.sound.specs.Letters.{chain_from, ends_well, told_length, words_from, right_length}
 use Rattle.sound.proofs.Gives.{all-within}
 
 module _ (s : Settings) (w : List ℕ) where
@@ -30,11 +30,11 @@ module _ (s : Settings) (w : List ℕ) where
   list-chain (suc n) b = split (eqb b 0) (λ t. rw t) (λ t. rw t (ap (λ (l : List ℕ). b ∷ l) (list-chain n (link s w b))))
 
   -- a shorter chain of blocks is one of blocks
-  pub chain-front : (m n k b : ℕ) → n ≤ k → Within m (chain s w k b) → Within m (chain s w n b)
+  pub chain_front : (m n k b : ℕ) → n ≤ k → Within m (chain s w k b) → Within m (chain s w n b)
   unfolding chain Within
-  chain-front m zero k b h a = tt
-  chain-front m (suc n) zero b h a = absurd (omega arith)
-  chain-front m (suc n) (suc k) b h a = (a.0, chain-front m n k (link s w b) (omega arith) a.1)
+  chain_front m zero k b h a = tt
+  chain_front m (suc n) zero b h a = absurd (omega arith)
+  chain_front m (suc n) (suc k) b h a = (a.0, chain_front m n k (link s w b) (omega arith) a.1)
 
   -- fewer words need no more blocks
   pub needs-most : InRange s → (m n : ℕ) → m ≤ n → needs s m ≤ needs s n
@@ -45,58 +45,58 @@ module _ (s : Settings) (w : List ℕ) where
       (le-div_iff_mul-le {k = k} {x = (m + (s.b - 2)) / k} {y = n + (s.b - 2)} (omega arith)).1
       (omega (arith, div-mul-le_self (m + (s.b - 2)) k))
 
-  module _ (st : Stretch s w) (b : ℕ) (e : endsWell s w b ≡ true) (r : rightLength s w b ≡ true) where
+  module _ (st : Stretch s w) (b : ℕ) (e : ends_well s w b ≡ true) (r : right_length s w b ≡ true) where
     abbrev n : ℕ
-    n = toldLength s w b
+    n = told_length s w b
 
-    lengths : (leb headerWords n ≡ true) × (leb n greatestLength && eqb (length (chainFrom s w b)) (needs s n) ≡ true)
-    unfolding rightLength
-    lengths = and-true (leb headerWords n) _ r
+    lengths : (leb header_words n ≡ true) × (leb n greatest_length && eqb (length (chain_from s w b)) (needs s n) ≡ true)
+    unfolding right_length
+    lengths = and-true (leb header_words n) _ r
 
-    pub right-least : headerWords ≤ n
-    right-least = leb-true headerWords n lengths.0
+    pub right_least : header_words ≤ n
+    right_least = leb-true header_words n lengths.0
 
-    pub right-most : n ≤ greatestLength
-    right-most = leb-true n greatestLength (and-true (leb n greatestLength) _ lengths.1).0
+    pub right_most : n ≤ greatest_length
+    right_most = leb-true n greatest_length (and-true (leb n greatest_length) _ lengths.1).0
 
     -- 'the blocks it needs'
-    pub right-needs : length (chainFrom s w b) ≡ needs s n
-    right-needs = eqb-true (length (chainFrom s w b)) (needs s n) (and-true (leb n greatestLength) _ lengths.1).1
+    pub right_needs : length (chain_from s w b) ≡ needs s n
+    right_needs = eqb-true (length (chain_from s w b)) (needs s n) (and-true (leb n greatest_length) _ lengths.1).1
 
-    pub right-chain : chainFrom s w b ≡ chain s w (needs s n) b
-    right-chain = list-chain s.m b ∙ ap (λ (k : ℕ). chain s w k b) right-needs
+    pub right_chain : chain_from s w b ≡ chain s w (needs s n) b
+    right_chain = list-chain s.m b ∙ ap (λ (k : ℕ). chain s w k b) right_needs
 
-    pub right-ends : after s w (needs s n) b ≡ 0
-    unfolding endsWell
-    right-ends =
-        ap (λ (k : ℕ). after s w k b) (sym right-needs)
-        ∙ eqb-true (after s w (length (chainFrom s w b)) b) 0 (and-true (all (λ x. leb 1 x && leb x s.m) (chainFrom s w b)) _ e).1
+    pub right_ends : after s w (needs s n) b ≡ 0
+    unfolding ends_well
+    right_ends =
+        ap (λ (k : ℕ). after s w k b) (sym right_needs)
+        ∙ eqb-true (after s w (length (chain_from s w b)) b) 0 (and-true (all (λ x. leb 1 x && leb x s.m) (chain_from s w b)) _ e).1
 
-    pub right-within : Within s.m (chain s w (needs s n) b)
-    unfolding endsWell
-    right-within =
-        rw (← right-chain) (all-within s.m (chainFrom s w b) (and-true (all (λ x. leb 1 x && leb x s.m) (chainFrom s w b)) _ e).0)
+    pub right_within : Within s.m (chain s w (needs s n) b)
+    unfolding ends_well
+    right_within =
+        rw (← right_chain) (all-within s.m (chain_from s w b) (and-true (all (λ x. leb 1 x && leb x s.m) (chain_from s w b)) _ e).0)
 
     -- the letter lies in its blocks, and so do its first words
-    pub right-lies : (k : ℕ) → k ≤ n → Lies s w k b
-    right-lies k h =
+    pub right_lies : (k : ℕ) → k ≤ n → Lies s w k b
+    right_lies k h =
         record {
-          walks = record { stretch = st; within = chain-front s.m (needs s k) (needs s n) b (needs-most st.range k n h) right-within };
-          most = omega (arith, right-most);
+          walks = record { stretch = st; within = chain_front s.m (needs s k) (needs s n) b (needs-most st.range k n h) right_within };
+          most = omega (arith, right_most);
         }
 
     -- the words as `letter` reads them
-    pub right-letter : letter s w n b ≡ wordsFrom s w b
-    unfolding letter wordsFrom
-    right-letter = ap (λ (c : List ℕ). take n (text s w c)) (sym right-chain)
+    pub right_letter_lem : letter s w n b ≡ words_from s w b
+    unfolding letter words_from
+    right_letter_lem = ap (λ (c : List ℕ). take n (text s w c)) (sym right_chain)
 
     -- each word as `word` reads it, and the length as `told` does
-    pub right-word : (k : ℕ) → k < n → word s w b k ≡ get_or (wordsFrom s w b) k 0
-    right-word k h = word-letter s w st n b k right-within h ∙ ap (λ (l : List ℕ). get_or l k 0) right-letter
+    pub right_word : (k : ℕ) → k < n → word s w b k ≡ get_or (words_from s w b) k 0
+    right_word k h = word-letter s w st n b k right_within h ∙ ap (λ (l : List ℕ). get_or l k 0) right_letter_lem
 
-    first-words : get_or (wordsFrom s w b) lengthWord 0 ≡ n
-    unfolding wordsFrom
-    first-words = get_or-take n (text s w (chainFrom s w b)) lengthWord 0 (omega (arith, right-least))
+    first-words : get_or (words_from s w b) length_word 0 ≡ n
+    unfolding words_from
+    first-words = get_or-take n (text s w (chain_from s w b)) length_word 0 (omega (arith, right_least))
 
-    pub right-told : told s w b ≡ n
-    right-told = right-word lengthWord (omega (arith, right-least)) ∙ first-words
+    pub right_told : told s w b ≡ n
+    right_told = right_word length_word (omega (arith, right_least)) ∙ first-words

@@ -3,23 +3,23 @@ use Rattle.std.specs.Prelude.{Bool, ◌&&◌, List, [], ◌∷◌, ◌++◌, ℕ
 use Rattle.words.specs.Words.{every, all}
 use Rattle.words.specs.Count.{occurs}
 use Rattle.settings.specs.declared.Settings.{Settings}
-use Rattle.layout.specs.Places.{firstFreeAt, node}
-use Rattle.layout.specs.Rows.{byRow}
+use Rattle.layout.specs.Places.{first_free_at, node}
+use Rattle.layout.specs.Rows.{by_row}
 use Rattle.queues.specs.Items.{live}
-use Rattle.sound.specs.Reading.{tableIn, sendItems, ackItems, taskItems}
-use Rattle.sound.specs.Letters.{chainFrom, endsWell, rightLetter}
+use Rattle.sound.specs.Reading.{table_in, send_items, ack_items, task_items}
+use Rattle.sound.specs.Letters.{chain_from, ends_well, right_letter}
 use Rattle.sound.specs.Positions.{held}
 
 -- the chains that the blocks bs begin, one behind the other
 unfoldable pub chains : Settings → List ℕ → List ℕ → List ℕ
 chains s stretch [] = []
-chains s stretch (b ∷ bs) = chainFrom s stretch b ++ chains s stretch bs
+chains s stretch (b ∷ bs) = chain_from s stretch b ++ chains s stretch bs
 
 module _ (s : Settings) (memory : List ℕ) (i : ℕ) where
   -- the first blocks of the letters at place p of node i: 'its send items, its non-zero task items, the items of acknowledge queue i on
   -- other nodes, and the block held in stage 2'
   unfoldable pub begun : ℕ → List ℕ
-  begun p = byRow p (held s memory i) (sendItems s memory i (p - 1)) (ackItems s memory (p - 7) i) (live (taskItems s memory i (p - 13))) []
+  begun p = by_row p (held s memory i) (send_items s memory i (p - 1)) (ack_items s memory (p - 7) i) (live (task_items s memory i (p - 13))) []
 
   -- the blocks that stand in the chains of the first n places
   unfoldable pub standing : ℕ → List ℕ
@@ -28,14 +28,14 @@ module _ (s : Settings) (memory : List ℕ) (i : ℕ) where
 
   -- the free list and the chains
   unfoldable pub visits : List ℕ
-  visits = chainFrom s (node s memory i) (get_or (node s memory i) firstFreeAt 0) ++ standing 77
+  visits = chain_from s (node s memory i) (get_or (node s memory i) first_free_at 0) ++ standing 77
 
   -- 'the free list and the chains .. visit each block exactly once'
-  unfoldable pub eachOnce : Bool
-  eachOnce =
-      endsWell s (node s memory i) (get_or (node s memory i) firstFreeAt 0)
+  unfoldable pub each_once : Bool
+  each_once =
+      ends_well s (node s memory i) (get_or (node s memory i) first_free_at 0)
       && every s.m (λ b. eqb (occurs (suc b) visits) 1)
 
   -- the sixth rule, in node i
-  unfoldable pub rightLetters : Bool
-  rightLetters = every 77 (λ p. all (rightLetter s (node s memory i) (tableIn memory) i p) (begun p))
+  unfoldable pub right_letters : Bool
+  right_letters = every 77 (λ p. all (right_letter s (node s memory i) (table_in memory) i p) (begun p))

@@ -2,55 +2,55 @@
 use Rattle.std.specs.Prelude.{Bool, true, ◌&&◌, List, ℕ, ◌-◌, eqb, leb, length, get_or, take}
 use Rattle.words.specs.Words.{all}
 use Rattle.settings.specs.declared.Settings.{Settings}
-use Rattle.layout.specs.Numbers.{headerWords, greatestLength, sourceTaskWord, sourceNodeWord, destinationTaskWord, destinationNodeWord, lengthWord}
-use Rattle.layout.specs.Rows.{byRow}
-use Rattle.tasks.specs.Table.{node_of, isBound}
+use Rattle.layout.specs.Numbers.{header_words, greatest_length, source_task_word, source_node_word, destination_task_word, destination_node_word, length_word}
+use Rattle.layout.specs.Rows.{by_row}
+use Rattle.tasks.specs.Table.{node_of, is_bound}
 use Rattle.blocks.specs.Chain.{needs, after, list, text}
 use Rattle.sound.specs.Queues.{task_of}
 
 module _ (s : Settings) (stretch : List ℕ) where
   -- the chain that block b begins: its blocks up to a link 0, M at most
-  abbrev pub chainFrom : ℕ → List ℕ
-  chainFrom b = list s stretch s.m b
+  abbrev pub chain_from : ℕ → List ℕ
+  chain_from b = list s stretch s.m b
 
   -- the chain goes over blocks 1 to M, and ends with a link 0
-  unfoldable pub endsWell : ℕ → Bool
-  endsWell b = all (λ x. leb 1 x && leb x s.m) (chainFrom b) && eqb (after s stretch (length (chainFrom b)) b) 0
+  unfoldable pub ends_well : ℕ → Bool
+  ends_well b = all (λ x. leb 1 x && leb x s.m) (chain_from b) && eqb (after s stretch (length (chain_from b)) b) 0
 
   -- the length that the letter tells, and its words, header and body
-  abbrev pub toldLength : ℕ → ℕ
-  toldLength b = get_or (text s stretch (chainFrom b)) lengthWord 0
+  abbrev pub told_length : ℕ → ℕ
+  told_length b = get_or (text s stretch (chain_from b)) length_word 0
 
-  unfoldable pub wordsFrom : ℕ → List ℕ
-  wordsFrom b = take (toldLength b) (text s stretch (chainFrom b))
+  unfoldable pub words_from : ℕ → List ℕ
+  words_from b = take (told_length b) (text s stretch (chain_from b))
 
   -- 'a valid length, the blocks it needs'
-  unfoldable pub rightLength : ℕ → Bool
-  rightLength b =
-      leb headerWords (toldLength b) && (leb (toldLength b) greatestLength && eqb (length (chainFrom b)) (needs s (toldLength b)))
+  unfoldable pub right_length : ℕ → Bool
+  right_length b =
+      leb header_words (told_length b) && (leb (told_length b) greatest_length && eqb (length (chain_from b)) (needs s (told_length b)))
 
 -- 'a header of bound tasks on their nodes'
-unfoldable pub rightHeader : List ℕ → List ℕ → Bool
-rightHeader table ws =
-    isBound table (get_or ws sourceTaskWord 0)
-    && (eqb (node_of table (get_or ws sourceTaskWord 0)) (get_or ws sourceNodeWord 0)
-    && (isBound table (get_or ws destinationTaskWord 0)
-    && eqb (node_of table (get_or ws destinationTaskWord 0)) (get_or ws destinationNodeWord 0)))
+unfoldable pub right_header : List ℕ → List ℕ → Bool
+right_header table ws =
+    is_bound table (get_or ws source_task_word 0)
+    && (eqb (node_of table (get_or ws source_task_word 0)) (get_or ws source_node_word 0)
+    && (is_bound table (get_or ws destination_task_word 0)
+    && eqb (node_of table (get_or ws destination_task_word 0)) (get_or ws destination_node_word 0)))
 
 -- from node i to node k
-abbrev pub fromTo : ℕ → ℕ → List ℕ → Bool
-fromTo i k ws = eqb (get_or ws sourceNodeWord 0) i && eqb (get_or ws destinationNodeWord 0) k
+abbrev pub from_to : ℕ → ℕ → List ℕ → Bool
+from_to i k ws = eqb (get_or ws source_node_word 0) i && eqb (get_or ws destination_node_word 0) k
 
 -- a node's places for letters are numbered as its rows: 0 the postman's hand, 1-6 its send queues, 7-12 the acknowledge queues for it on
 -- nodes 0 to 5, 13-76 its task queues
 -- 'Send queue k on i: from i to k. Acknowledge queue i on j: from i to j. A task queue: that task'
-unfoldable pub rightPlace : List ℕ → ℕ → ℕ → List ℕ → Bool
-rightPlace table i p ws =
-    byRow p true (fromTo i (p - 1) ws) (fromTo i (p - 7) ws) (eqb (get_or ws destinationTaskWord 0) (task_of table i (p - 13))) true
+unfoldable pub right_place : List ℕ → ℕ → ℕ → List ℕ → Bool
+right_place table i p ws =
+    by_row p true (from_to i (p - 1) ws) (from_to i (p - 7) ws) (eqb (get_or ws destination_task_word 0) (task_of table i (p - 13))) true
 
 -- the sixth rule, of the letter that block b begins at place p of node i
-unfoldable pub rightLetter : Settings → List ℕ → List ℕ → ℕ → ℕ → ℕ → Bool
-rightLetter s stretch table i p b =
-    endsWell s stretch b
-    && (rightLength s stretch b
-    && (rightHeader table (wordsFrom s stretch b) && rightPlace table i p (wordsFrom s stretch b)))
+unfoldable pub right_letter : Settings → List ℕ → List ℕ → ℕ → ℕ → ℕ → Bool
+right_letter s stretch table i p b =
+    ends_well s stretch b
+    && (right_length s stretch b
+    && (right_header table (words_from s stretch b) && right_place table i p (words_from s stretch b)))

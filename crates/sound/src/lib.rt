@@ -1,14 +1,14 @@
 // A sound memory: the test that every call but set up begins with.
 ghost use Rattle.std.specs.Prelude.{◌≡◌, ◌≤◌, length};
-ghost use Rattle.layout.specs.Places.{settingWords};
-ghost use Rattle.sound.specs.Reading.{settingsIn};
+ghost use Rattle.layout.specs.Places.{setting_words};
+ghost use Rattle.sound.specs.Reading.{settings_in};
 
 use settings::Settings;
 
 // The settings that words 0-4 tell.
 pub fn settings_in(memory: &[u32]) -> Settings
-    requires { settingWords ≤ length memory.now }
-    ensures { result ≡ settingsIn memory.now }
+    requires { setting_words ≤ length memory.now }
+    ensures { result ≡ settings_in memory.now }
 {
     Settings {
         b: memory[0] as usize,

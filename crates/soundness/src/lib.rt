@@ -3,13 +3,13 @@ ghost use Rattle.std.specs.Prelude.{◌≡◌, true, ◌&&◌, ◌<◌};
 ghost use Rattle.words.specs.Words.{every};
 ghost use Rattle.layout.specs.Places.{nodes};
 ghost use Rattle.layout.specs.Asked.{Sized};
-ghost use Rattle.tasks.specs.Table.{rightTable};
-ghost use Rattle.sound.specs.Reading.{tableIn};
-ghost use Rattle.sound.specs.Queues.{rightQueues};
+ghost use Rattle.tasks.specs.Table.{right_table};
+ghost use Rattle.sound.specs.Reading.{table_in};
+ghost use Rattle.sound.specs.Queues.{right_queues};
 ghost use Rattle.sound.specs.Sound.{sound};
 ghost use Rattle.shapes.specs.Seats.{Seats};
-ghost use Rattle.places.specs.Given.{standsRight, Looked};
-ghost use Rattle.soundness.specs.Parts.{isOther, nodeRight, seatedRight, Queued};
+ghost use Rattle.places.specs.Given.{stands_right, Looked};
+ghost use Rattle.soundness.specs.Parts.{is_other, node_right, seated_right, Queued};
 
 use settings::{MadeSettings, Settings};
 
@@ -17,7 +17,7 @@ use settings::{MadeSettings, Settings};
 fn is_other(memory: &[u32], s: Settings, j: usize, other: usize) -> bool
     requires queued { Queued s memory.now }
     requires j_bound { j < 6 }
-    ensures { result ≡ isOther s memory.now j other }
+    ensures { result ≡ is_other s memory.now j other }
 {
     if 5 < other {
         return false;
@@ -34,7 +34,7 @@ fn is_other(memory: &[u32], s: Settings, j: usize, other: usize) -> bool
 fn is_standing(memory: &[u32], s: Settings, j: usize) -> bool
     requires queued { Queued s memory.now }
     requires j_bound { j < 6 }
-    ensures { result ≡ standsRight s memory.now j }
+    ensures { result ≡ stands_right s memory.now j }
 {
     let at = 6 + j * 3;
     let stage = memory[at];
@@ -64,7 +64,7 @@ fn is_standing(memory: &[u32], s: Settings, j: usize) -> bool
 // The same of every node.
 fn are_standing(memory: &[u32], s: Settings) -> bool
     requires { Queued s memory.now }
-    ensures { result ≡ every nodes (standsRight s memory.now) }
+    ensures { result ≡ every nodes (stands_right s memory.now) }
 {
     let mut j: usize = 0;
     while j < 6 {
@@ -79,8 +79,8 @@ fn are_standing(memory: &[u32], s: Settings) -> bool
 // The third rule, in every node.
 fn are_right_queues(memory: &[u32], s: Settings, seats: &[u8; 384]) -> bool
     requires sized { Sized s memory.now }
-    requires seats { Seats (tableIn memory.now) seats.now }
-    ensures { result ≡ every nodes (rightQueues s memory.now) }
+    requires seats { Seats (table_in memory.now) seats.now }
+    ensures { result ≡ every nodes (right_queues s memory.now) }
 {
     let mut i: usize = 0;
     while i < 6 {
@@ -95,8 +95,8 @@ fn are_right_queues(memory: &[u32], s: Settings, seats: &[u8; 384]) -> bool
 // The fifth and the sixth rule, in every node.
 fn are_right_nodes(memory: &[u32], s: Settings, seats: &[u8; 384]) -> bool
     requires looked { Looked s memory.now }
-    requires seats { Seats (tableIn memory.now) seats.now }
-    ensures { result ≡ every nodes (nodeRight s memory.now) }
+    requires seats { Seats (table_in memory.now) seats.now }
+    ensures { result ≡ every nodes (node_right s memory.now) }
 {
     let mut i: usize = 0;
     while i < 6 {
@@ -111,9 +111,9 @@ fn are_right_nodes(memory: &[u32], s: Settings, seats: &[u8; 384]) -> bool
 // The third to sixth rule, with the row of seats.
 fn is_right_seated(memory: &[u32], s: Settings, seats: &[u8; 384]) -> bool
     requires sized { Sized s memory.now }
-    requires memory_value { rightTable (tableIn memory.now) ≡ true }
-    requires seats { Seats (tableIn memory.now) seats.now }
-    ensures { result ≡ seatedRight s memory.now }
+    requires memory_value { right_table (table_in memory.now) ≡ true }
+    requires seats { Seats (table_in memory.now) seats.now }
+    ensures { result ≡ seated_right s memory.now }
 {
     if !are_right_queues(memory, s, seats) {
         return false;
@@ -130,7 +130,7 @@ fn is_right_seated(memory: &[u32], s: Settings, seats: &[u8; 384]) -> bool
 // The second to sixth rule.
 fn is_right_memory(memory: &[u32], s: Settings) -> bool
     requires { Sized s memory.now }
-    ensures { result ≡ (rightTable (tableIn memory.now) && seatedRight s memory.now) }
+    ensures { result ≡ (right_table (table_in memory.now) && seated_right s memory.now) }
 {
     let mut seats = [0u8; 384];
     if !tasks::seat_tasks(layout::table(memory), &mut seats) {

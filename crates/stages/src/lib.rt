@@ -3,7 +3,7 @@ ghost use Rattle.std.specs.Prelude.{◌≡◌};
 ghost use Rattle.postman.specs.Position.{at};
 ghost use Rattle.postman.specs.Round.{did};
 ghost use Rattle.postman.specs.Asked.{SoundAt, Waits, Owes};
-ghost use Rattle.stages_keep.specs.Steps.{onAppend, copiedIn, queued, acknowledged, sendDropped};
+ghost use Rattle.stages_keep.specs.Steps.{on_append, copied_in, queued, acknowledged, send_dropped};
 ghost use Rattle.lending.specs.Asked.{HasFirst};
 ghost use Rattle.stages.specs.Asked.{Holds, GaveBack};
 
@@ -14,7 +14,7 @@ use settings::Settings;
 
 // How a stage ends that appends: a full queue stops it, with that number.
 fn stage_of(done: Appended, number: u32) -> Stage
-    ensures { result ≡ onAppend done number }
+    ensures { result ≡ on_append done number }
 {
     match done {
         Appended::Done => Stage::Done,
@@ -25,7 +25,7 @@ fn stage_of(done: Appended, number: u32) -> Stage
 // Stage 1: takes space in j for the first letter of node i's send queue, and copies it there.
 pub fn copy_in(memory: &mut [u32], s: Settings, i: usize, j: usize) -> Stage
     requires { Waits s memory.old j i 1 }
-    ensures { did memory.new result ≡ copiedIn s j memory.old i }
+    ensures { did memory.new result ≡ copied_in s j memory.old i }
 {
     let x = lending::first_of(memory, s, i, j);
     let length = lending::length_of(memory, s, i, x);
@@ -63,7 +63,7 @@ pub fn put_ack(memory: &mut [u32], s: Settings, i: usize, j: usize) -> Stage
 // Drops the first item of send queue j on node i.
 pub fn drop_send(memory: &mut [u32], s: Settings, i: usize, j: usize)
     requires { HasFirst s memory.old i j }
-    ensures { memory.new ≡ sendDropped s j memory.old i }
+    ensures { memory.new ≡ send_dropped s j memory.old i }
 {
     let q = layout::send_at(s, j);
     lending::drop_in(memory, s, i, queues::send_kind(s), q);

@@ -5,15 +5,15 @@ use mathlib.Core.List.{List, [], ◌∷◌, ◌++◌}
 use Prim.Native.Nat.{ℕ}
 use lib.Dec.{eqb}
 use lib.ListN.{length}
-use Rattle.tasks.specs.Table.{isBound}
-use Rattle.sound.specs.Reading.{settingsIn, tableIn}
+use Rattle.tasks.specs.Table.{is_bound}
+use Rattle.sound.specs.Reading.{settings_in, table_in}
 use Rattle.sound.specs.Sound.{sound}
 use Rattle.posting.specs.declared.Sent.{Sent}
 use Rattle.posting.specs.declared.Sent.TheVariants.{Done as Sent-done}
 use Rattle.send.specs.Outcome.{Outcome as SentOutcome, fits, delivered, send}
 use Rattle.receive.specs.Outcome.{Outcome as ReceivedOutcome, collected, receive}
 use Rattle.turn.specs.Outcome.{Outcome as TurnedOutcome, taken, turn}
-use Rattle.history.specs.Runs.{Sends, Receives, Turns, Past, sentLetter, acceptedBy, receivedBy, after_call}
+use Rattle.history.specs.Runs.{Sends, Receives, Turns, Past, sent_letter, accepted_by, received_by, after_call}
 use Rattle.history.proofs.History.{Kept, goes_on}
 
 -- the run has come to p: its memory is o, the letters accepted and received are these
@@ -29,53 +29,53 @@ module _ (p : Past) (o : List ℕ) (acc rec : List (List ℕ)) (at : At p o acc 
 
   -- ---- a send that is done
   module _ (a b : ℕ) (body : List ℕ) where
-    send-in : isBound (tableIn o) a ≡ true → isBound (tableIn o) b ≡ true → fits (settingsIn o) (length body) ≡ true → send p.memory a b body ≡ delivered o a b body
+    send_in : is_bound (table_in o) a ≡ true → is_bound (table_in o) b ≡ true → fits (settings_in o) (length body) ≡ true → send p.memory a b body ≡ delivered o a b body
     unfolding send
-    send-in x y z = ap (λ (m : List ℕ). send m a b body) at.memory ∙ rw (safe, x, y, z)
+    send_in x y z = ap (λ (m : List ℕ). send m a b body) at.memory ∙ rw (safe, x, y, z)
 
-    pub sends : (n : ℕ) → isBound (tableIn o) a ≡ true → isBound (tableIn o) b ≡ true → fits (settingsIn o) (length body) ≡ true → (delivered o a b body).answer ≡ Sent-done n
-        → At (after_call p (Sends a b body)) (delivered o a b body).memory (acc ++ sentLetter (tableIn o) a b body ∷ []) rec
+    pub sends : (n : ℕ) → is_bound (table_in o) a ≡ true → is_bound (table_in o) b ≡ true → fits (settings_in o) (length body) ≡ true → (delivered o a b body).answer ≡ Sent-done n
+        → At (after_call p (Sends a b body)) (delivered o a b body).memory (acc ++ sent_letter (table_in o) a b body ∷ []) rec
     unfolding after_call
     sends n x y z d =
-        let e = send-in x y z in
+        let e = send_in x y z in
         record {
           kept = goes_on p at.kept (Sends a b body);
           memory = ap (λ (r : SentOutcome). r.memory) e;
-          taken_in = ap₂ (λ (l : List (List ℕ)) (r : Sent). l ++ acceptedBy r (sentLetter (tableIn p.memory) a b body)) at.taken_in (ap (λ (r : SentOutcome). r.answer) e ∙ d)
-              ∙ ap (λ (m : List ℕ). acc ++ sentLetter (tableIn m) a b body ∷ []) at.memory;
+          taken_in = ap₂ (λ (l : List (List ℕ)) (r : Sent). l ++ accepted_by r (sent_letter (table_in p.memory) a b body)) at.taken_in (ap (λ (r : SentOutcome). r.answer) e ∙ d)
+              ∙ ap (λ (m : List ℕ). acc ++ sent_letter (table_in m) a b body ∷ []) at.memory;
           given_out = at.given_out;
         }
 
   -- ---- a receive that is done
   module _ (b source : ℕ) (out : List ℕ) where
-    receive-in : isBound (tableIn o) b ≡ true → (eqb source 0 || isBound (tableIn o) source) ≡ true → receive p.memory b source out ≡ collected o b source out
+    receive_in : is_bound (table_in o) b ≡ true → (eqb source 0 || is_bound (table_in o) source) ≡ true → receive p.memory b source out ≡ collected o b source out
     unfolding receive
-    receive-in x y = ap (λ (m : List ℕ). receive m b source out) at.memory ∙ rw (safe, x, y)
+    receive_in x y = ap (λ (m : List ℕ). receive m b source out) at.memory ∙ rw (safe, x, y)
 
-    pub receives : isBound (tableIn o) b ≡ true → (eqb source 0 || isBound (tableIn o) source) ≡ true
-        → At (after_call p (Receives b source out)) (collected o b source out).memory acc (rec ++ receivedBy (tableIn o) b (collected o b source out).answer (collected o b source out).out)
+    pub receives : is_bound (table_in o) b ≡ true → (eqb source 0 || is_bound (table_in o) source) ≡ true
+        → At (after_call p (Receives b source out)) (collected o b source out).memory acc (rec ++ received_by (table_in o) b (collected o b source out).answer (collected o b source out).out)
     unfolding after_call
     receives x y =
-        let e = receive-in x y in
+        let e = receive_in x y in
         record {
           kept = goes_on p at.kept (Receives b source out);
           memory = ap (λ (r : ReceivedOutcome). r.memory) e;
           taken_in = at.taken_in;
-          given_out = ap₂ (λ (l : List (List ℕ)) (r : ReceivedOutcome). l ++ receivedBy (tableIn p.memory) b r.answer r.out) at.given_out e
-              ∙ ap (λ (m : List ℕ). rec ++ receivedBy (tableIn m) b (collected o b source out).answer (collected o b source out).out) at.memory;
+          given_out = ap₂ (λ (l : List (List ℕ)) (r : ReceivedOutcome). l ++ received_by (table_in p.memory) b r.answer r.out) at.given_out e
+              ∙ ap (λ (m : List ℕ). rec ++ received_by (table_in m) b (collected o b source out).answer (collected o b source out).out) at.memory;
         }
 
   -- ---- a turn
-  turn_in : turn p.memory ≡ taken o
+  turn_in_lem : turn p.memory ≡ taken o
   unfolding turn
-  turn_in = ap turn at.memory ∙ rw safe
+  turn_in_lem = ap turn at.memory ∙ rw safe
 
   pub turns : At (after_call p Turns) (taken o).memory acc rec
   unfolding after_call
   turns =
       record {
         kept = goes_on p at.kept Turns;
-        memory = ap (λ (r : TurnedOutcome). r.memory) turn_in;
+        memory = ap (λ (r : TurnedOutcome). r.memory) turn_in_lem;
         taken_in = at.taken_in;
         given_out = at.given_out;
       }

@@ -1,6 +1,6 @@
 -- The run: three tasks on two nodes, four letters, a queue full at each of two stages.
 use Rattle.std.specs.Prelude.{List, [], ◌∷◌, ℕ, zero, suc, replicate}
-use Rattle.history.specs.Runs.{Call, SetsUp, Sends, Receives, Turns, Past, sentLetter, after_call}
+use Rattle.history.specs.Runs.{Call, SetsUp, Sends, Receives, Turns, Past, sent_letter, after_call}
 
 -- n ids that are bound to none
 abbrev pub unbound : ℕ → List ℕ
@@ -17,7 +17,7 @@ start = after_call (record { memory = replicate 3824 0; accepted = []; received 
 
 -- a letter from task 1 with one word of body
 abbrev pub one : ℕ → ℕ → List ℕ
-one to word = sentLetter table 1 to (word ∷ [])
+one to word = sent_letter table 1 to (word ∷ [])
 
 -- three letters, the turns of nodes 0 and 1: the second finds its acknowledge queue full, and stops at stage 3
 abbrev pub early : List Call

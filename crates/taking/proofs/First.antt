@@ -9,7 +9,7 @@ use borrow.Author.Tests.{eq-eqb}
 use Rattle.words.proofs.Lists.{split}
 use Rattle.settings.specs.declared.Settings.{Settings}
 use Rattle.taking.specs.declared.Found.TheVariants.{At, Nothing}
-use Rattle.taking.specs.Find.{wanted, firstFrom}
+use Rattle.taking.specs.Find.{wanted, first_from}
 
 -- j is the first place of xs whose item passes the test
 pub record IsFirst (p : ℕ → Bool) (xs : List ℕ) (j : ℕ) : Type 0 where
@@ -18,17 +18,17 @@ pub record IsFirst (p : ℕ → Bool) (xs : List ℕ) (j : ℕ) : Type 0 where
   pub before : (n : ℕ) → n < j → p (get_or xs n 0) ≡ false
 
 module _ (p : ℕ → Bool) where
-  first-cons : (x : ℕ) (xs : List ℕ) (j : ℕ) → p x ≡ false → IsFirst p xs j → IsFirst p (x ∷ xs) (suc j)
-  first-cons x xs j e f = record { within = omega (arith, f.within); passes = f.passes; before = at }
+  first_cons : (x : ℕ) (xs : List ℕ) (j : ℕ) → p x ≡ false → IsFirst p xs j → IsFirst p (x ∷ xs) (suc j)
+  first_cons x xs j e f = record { within = omega (arith, f.within); passes = f.passes; before = at }
     where
       at : (n : ℕ) → n < suc j → p (get_or (x ∷ xs) n 0) ≡ false
       at zero h = e
       at (suc n) h = f.before n (omega arith)
 
-  first-at : (i : ℕ) (xs : List ℕ) (m : ℕ) → firstFrom p i xs ≡ At m → (i ≤ m) × IsFirst p xs (m - i)
-  unfolding firstFrom
-  first-at i [] m e = absurd (let z : ◌≡◌ {A = ℕ} 0 1 = cc in omega arith)
-  first-at i (x ∷ xs) m e =
+  first_at : (i : ℕ) (xs : List ℕ) (m : ℕ) → first_from p i xs ≡ At m → (i ≤ m) × IsFirst p xs (m - i)
+  unfolding first_from
+  first_at i [] m e = absurd (let z : ◌≡◌ {A = ℕ} 0 1 = cc in omega arith)
+  first_at i (x ∷ xs) m e =
       split (p x)
       (λ t.
       let z : At i ≡ At m = rw t at e in
@@ -36,17 +36,17 @@ module _ (p : ℕ → Bool) where
       let d : m - i ≡ 0 = omega arith in
       (omega arith, rw d (record { within = omega arith; passes = t; before = λ n h. absurd (omega arith) })))
       (λ t.
-      let f = first-at (i + 1) xs m (rw t at e) in
+      let f = first_at (i + 1) xs m (rw t at e) in
       let h : i + 1 ≤ m = f.0 in
       let d : m - i ≡ suc (m - (i + 1)) = omega arith in
-      (omega arith, rw d (first-cons x xs (m - (i + 1)) t f.1)))
+      (omega arith, rw d (first_cons x xs (m - (i + 1)) t f.1)))
 
   -- FOUND: the first that passes
-  pub found_at : (xs : List ℕ) (j : ℕ) → firstFrom p 0 xs ≡ At j → IsFirst p xs j
-  found_at xs j e = let d : j - 0 ≡ j = omega arith in rw d at (first-at 0 xs j e).1
+  pub found_at : (xs : List ℕ) (j : ℕ) → first_from p 0 xs ≡ At j → IsFirst p xs j
+  found_at xs j e = let d : j - 0 ≡ j = omega arith in rw d at (first_at 0 xs j e).1
 
-  first-nothing : (i : ℕ) (xs : List ℕ) → firstFrom p i xs ≡ Nothing → (n : ℕ) → n < length xs → p (get_or xs n 0) ≡ false
-  unfolding firstFrom
+  first-nothing : (i : ℕ) (xs : List ℕ) → first_from p i xs ≡ Nothing → (n : ℕ) → n < length xs → p (get_or xs n 0) ≡ false
+  unfolding first_from
   first-nothing i [] e n h = absurd (omega arith)
   first-nothing i (x ∷ xs) e n h =
       split (p x)
@@ -58,7 +58,7 @@ module _ (p : ℕ → Bool) where
       later (suc n) h t f = f n (omega arith)
 
   -- NOTHING FOUND: none passes
-  pub found_nothing : (xs : List ℕ) → firstFrom p 0 xs ≡ Nothing → (n : ℕ) → n < length xs → p (get_or xs n 0) ≡ false
+  pub found_nothing : (xs : List ℕ) → first_from p 0 xs ≡ Nothing → (n : ℕ) → n < length xs → p (get_or xs n 0) ≡ false
   found_nothing xs = first-nothing 0 xs
 
 -- what is wanted is a letter

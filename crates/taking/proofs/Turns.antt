@@ -10,15 +10,15 @@ use lib.ListN.{get_or, set}
 use borrow.Author.Tests.{eq-eqb, ne_eqb, le-leb, lt-leb, leb-true, leb-false}
 use Rattle.words.proofs.Lists.{split}
 use Rattle.settings.specs.declared.Settings.{Settings}
-use Rattle.layout.specs.Places.{block_at, gapWord}
+use Rattle.layout.specs.Places.{block_at, gap_word}
 use Rattle.queues.specs.declared.Kind.{Kind}
-use Rattle.queues.specs.Queue.{item_at, slot_at, run, items, contents, taskKind}
+use Rattle.queues.specs.Queue.{item_at, slot_at, run, items, contents, task_kind}
 use Rattle.queues.specs.Moves.{dropped}
-use Rattle.queues.specs.Items.{gapFlag}
+use Rattle.queues.specs.Items.{gap_flag}
 use Rattle.taking.specs.declared.Seen.TheVariants.{Here, Past, End}
 use Rattle.taking.specs.declared.Found.TheVariants.{At, Nothing}
-use Rattle.taking.specs.Find.{from, wanted, seen, firstFrom}
-use Rattle.taking.specs.Take.{cleared, firstOut, out, flagged, takenOut}
+use Rattle.taking.specs.Find.{from, wanted, seen, first_from}
+use Rattle.taking.specs.Take.{cleared, first_out, out, flagged, taken_out}
 
 down : (n : ℕ) → 0 < n → n ≡ suc (n - 1)
 down n h = omega arith
@@ -42,54 +42,54 @@ module _ (k : Kind) (l : List ℕ) (q : ℕ) where
     left : n - i ≡ suc (n - (i + 1))
     left = omega arith
 
-    pub flag-gap : item_at k l q i ≡ 0 → gapFlag (run k l q i (n - i)) ≡ 1
-    unfolding run gapFlag
+    pub flag-gap : item_at k l q i ≡ 0 → gap_flag (run k l q i (n - i)) ≡ 1
+    unfolding run gap_flag
     flag-gap e = rw (left, eq-eqb (item_at k l q i) 0 e)
 
-    pub flag-live : (item_at k l q i ≡ 0 → ⊥) → gapFlag (run k l q i (n - i)) ≡ gapFlag (run k l q (i + 1) (n - (i + 1)))
-    unfolding run gapFlag
-    flag-live e = ap (λ (m : ℕ). gapFlag (run k l q i m)) left ∙ rw (ne_eqb (item_at k l q i) 0 e)
+    pub flag-live : (item_at k l q i ≡ 0 → ⊥) → gap_flag (run k l q i (n - i)) ≡ gap_flag (run k l q (i + 1) (n - (i + 1)))
+    unfolding run gap_flag
+    flag-live e = ap (λ (m : ℕ). gap_flag (run k l q i m)) left ∙ rw (ne_eqb (item_at k l q i) 0 e)
 
-    pub first-here : (p : ℕ → Bool) → p (item_at k l q i) ≡ true → firstFrom p i (run k l q i (n - i)) ≡ At i
-    unfolding run firstFrom
-    first-here p e = rw (left, e)
+    pub first_here : (p : ℕ → Bool) → p (item_at k l q i) ≡ true → first_from p i (run k l q i (n - i)) ≡ At i
+    unfolding run first_from
+    first_here p e = rw (left, e)
 
-    pub first-later : (p : ℕ → Bool) → p (item_at k l q i) ≡ false → firstFrom p i (run k l q i (n - i)) ≡ firstFrom p (i + 1) (run k l q (i + 1) (n - (i + 1)))
-    unfolding run firstFrom
-    first-later p e = ap (λ (m : ℕ). firstFrom p i (run k l q i m)) left ∙ rw e
+    pub first-later : (p : ℕ → Bool) → p (item_at k l q i) ≡ false → first_from p i (run k l q i (n - i)) ≡ first_from p (i + 1) (run k l q (i + 1) (n - (i + 1)))
+    unfolding run first_from
+    first-later p e = ap (λ (m : ℕ). first_from p i (run k l q i m)) left ∙ rw e
 
   module _ (i n : ℕ) (h : n ≤ i) where
     over : n - i ≡ 0
     over = omega arith
 
-    pub first-none : (p : ℕ → Bool) → firstFrom p i (run k l q i (n - i)) ≡ Nothing
-    unfolding run firstFrom
-    first-none p = rw over
+    pub first_none : (p : ℕ → Bool) → first_from p i (run k l q i (n - i)) ≡ Nothing
+    unfolding run first_from
+    first_none p = rw over
 
-    pub flag-none : gapFlag (run k l q i (n - i)) ≡ 0
-    unfolding run gapFlag
-    flag-none = rw over
+    pub flag_none : gap_flag (run k l q i (n - i)) ≡ 0
+    unfolding run gap_flag
+    flag_none = rw over
 
   -- ---- taking out
   pub out_first : (i : ℕ) → i ≡ 0 → {m : List ℕ} → m ≡ dropped k l q → cleared k q (items k m q) m ≡ out k l q i
-  unfolding out firstOut
+  unfolding out first_out
   out_first i e f = rw (e, f)
 
-  pub out-further : (i : ℕ) → (i ≡ 0 → ⊥) → set l (slot_at k l q i) 0 ≡ out k l q i
+  pub out_further : (i : ℕ) → (i ≡ 0 → ⊥) → set l (slot_at k l q i) 0 ≡ out k l q i
   unfolding out
-  out-further i h = rw (ne_eqb i 0 h)
+  out_further i h = rw (ne_eqb i 0 h)
 
 -- what the store of `take_out` makes
-pub taken_is : (s : Settings) (l : List ℕ) (q i : ℕ) {k : Kind} {m : List ℕ} {v : ℕ} → k ≡ taskKind s → m ≡ out k l q i → v ≡ gapFlag (contents k m q)
-    → set m (q + gapWord) v ≡ takenOut s l q i
+pub taken_is : (s : Settings) (l : List ℕ) (q i : ℕ) {k : Kind} {m : List ℕ} {v : ℕ} → k ≡ task_kind s → m ≡ out k l q i → v ≡ gap_flag (contents k m q)
+    → set m (q + gap_word) v ≡ taken_out s l q i
 unfolding flagged
 taken_is s l q i e f g = rw (g, f, e)
 
 -- ---- the test
 module _ (s : Settings) (l : List ℕ) (source b : ℕ) where
-  pub from-any : source ≡ 0 → true ≡ from s l source b
+  pub from_any : source ≡ 0 → true ≡ from s l source b
   unfolding from
-  from-any e = rw (eq-eqb source 0 e)
+  from_any e = rw (eq-eqb source 0 e)
 
   pub from_one : (source ≡ 0 → ⊥) → (at : ℕ) → at ≡ block_at s b → eqb (get_or l at 0) source ≡ from s l source b
   unfolding from
@@ -97,47 +97,47 @@ module _ (s : Settings) (l : List ℕ) (source b : ℕ) where
 
 -- ---- what is seen
 module _ (s : Settings) (l : List ℕ) (q source i : ℕ) where
-  pub seen_end : items (taskKind s) l q ≤ i → End ≡ seen s l q source i
+  pub seen_end : items (task_kind s) l q ≤ i → End ≡ seen s l q source i
   unfolding seen
-  seen_end h = rw (le-leb (items (taskKind s) l q) i h)
+  seen_end h = rw (le-leb (items (task_kind s) l q) i h)
 
-  module _ (h : i < items (taskKind s) l q) {b : ℕ} (e : b ≡ item_at (taskKind s) l q i) where
+  module _ (h : i < items (task_kind s) l q) {b : ℕ} (e : b ≡ item_at (task_kind s) l q i) where
     pub seen-gap : b ≡ 0 → Past ≡ seen s l q source i
     unfolding seen wanted
-    seen-gap z = rw (lt-leb (items (taskKind s) l q) i h, ← e, eq-eqb b 0 z)
+    seen-gap z = rw (lt-leb (items (task_kind s) l q) i h, ← e, eq-eqb b 0 z)
 
     pub seen_here : (b ≡ 0 → ⊥) → from s l source b ≡ true → Here ≡ seen s l q source i
     unfolding seen wanted
-    seen_here z t = rw (lt-leb (items (taskKind s) l q) i h, ← e, ne_eqb b 0 z, t)
+    seen_here z t = rw (lt-leb (items (task_kind s) l q) i h, ← e, ne_eqb b 0 z, t)
 
     pub seen_other : (b ≡ 0 → ⊥) → from s l source b ≡ false → Past ≡ seen s l q source i
     unfolding seen wanted
-    seen_other z t = rw (lt-leb (items (taskKind s) l q) i h, ← e, ne_eqb b 0 z, t)
+    seen_other z t = rw (lt-leb (items (task_kind s) l q) i h, ← e, ne_eqb b 0 z, t)
 
   -- what each answer tells
-  pub told-end : seen s l q source i ≡ End → items (taskKind s) l q ≤ i
+  pub told_end : seen s l q source i ≡ End → items (task_kind s) l q ≤ i
   unfolding seen
-  told-end e =
-      split (leb (items (taskKind s) l q) i)
-      (λ t. leb-true (items (taskKind s) l q) i t)
-      (λ t. split (wanted s l source (item_at (taskKind s) l q i))
+  told_end e =
+      split (leb (items (task_kind s) l q) i)
+      (λ t. leb-true (items (task_kind s) l q) i t)
+      (λ t. split (wanted s l source (item_at (task_kind s) l q i))
       (λ u. absurd (let z : Here ≡ End = rw (t, u) at e in let y : ◌≡◌ {A = ℕ} 0 1 = cc in omega arith))
       (λ u. absurd (let z : Past ≡ End = rw (t, u) at e in let y : ◌≡◌ {A = ℕ} 0 1 = cc in omega arith)))
 
-  pub told_here : seen s l q source i ≡ Here → (i < items (taskKind s) l q) × (wanted s l source (item_at (taskKind s) l q i) ≡ true)
+  pub told_here : seen s l q source i ≡ Here → (i < items (task_kind s) l q) × (wanted s l source (item_at (task_kind s) l q i) ≡ true)
   unfolding seen
   told_here e =
-      split (leb (items (taskKind s) l q) i)
+      split (leb (items (task_kind s) l q) i)
       (λ t. absurd (let z : End ≡ Here = rw t at e in let y : ◌≡◌ {A = ℕ} 0 1 = cc in omega arith))
-      (λ t. split (wanted s l source (item_at (taskKind s) l q i))
-      (λ u. (leb-false (items (taskKind s) l q) i t, u))
+      (λ t. split (wanted s l source (item_at (task_kind s) l q i))
+      (λ u. (leb-false (items (task_kind s) l q) i t, u))
       (λ u. absurd (let z : Past ≡ Here = rw (t, u) at e in let y : ◌≡◌ {A = ℕ} 0 1 = cc in omega arith)))
 
-  pub told-past : seen s l q source i ≡ Past → (i < items (taskKind s) l q) × (wanted s l source (item_at (taskKind s) l q i) ≡ false)
+  pub told_past : seen s l q source i ≡ Past → (i < items (task_kind s) l q) × (wanted s l source (item_at (task_kind s) l q i) ≡ false)
   unfolding seen
-  told-past e =
-      split (leb (items (taskKind s) l q) i)
+  told_past e =
+      split (leb (items (task_kind s) l q) i)
       (λ t. absurd (let z : End ≡ Past = rw t at e in let y : ◌≡◌ {A = ℕ} 0 1 = cc in omega arith))
-      (λ t. split (wanted s l source (item_at (taskKind s) l q i))
+      (λ t. split (wanted s l source (item_at (task_kind s) l q i))
       (λ u. absurd (let z : Here ≡ Past = rw (t, u) at e in let y : ◌≡◌ {A = ℕ} 0 1 = cc in omega arith))
-      (λ u. (leb-false (items (taskKind s) l q) i t, u)))
+      (λ u. (leb-false (items (task_kind s) l q) i t, u)))

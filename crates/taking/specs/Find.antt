@@ -2,9 +2,9 @@
 use Rattle.std.specs.Prelude.{Bool, true, false, cond, List, [], ◌∷◌, ℕ, ◌+◌, ◌≤◌, ◌<◌, eqb, leb, get_or}
 use Rattle.settings.specs.declared.Settings.{Settings}
 use Rattle.layout.specs.Places.{block_at}
-use Rattle.layout.specs.Numbers.{sourceTaskWord}
+use Rattle.layout.specs.Numbers.{source_task_word}
 use Rattle.layout.specs.Asked.{Stretch}
-use Rattle.queues.specs.Queue.{Queue, items, item_at, contents, taskKind}
+use Rattle.queues.specs.Queue.{Queue, items, item_at, contents, task_kind}
 use Rattle.taking.specs.declared.Seen.{Seen}
 use Rattle.taking.specs.declared.Seen.TheVariants.{Here, Past, End}
 use Rattle.taking.specs.declared.Found.{Found}
@@ -12,28 +12,28 @@ use Rattle.taking.specs.declared.Found.TheVariants.{At, Nothing}
 
 -- the letter that block b begins is from the source; source 0 stands for any
 unfoldable pub from : Settings → List ℕ → ℕ → ℕ → Bool
-from s node source b = cond (eqb source 0) true (eqb (get_or node (block_at s b + sourceTaskWord) 0) source)
+from s node source b = cond (eqb source 0) true (eqb (get_or node (block_at s b + source_task_word) 0) source)
 
 -- item b is a letter, and from the source: a gap is no letter
 unfoldable pub wanted : Settings → List ℕ → ℕ → ℕ → Bool
 wanted s node source b = cond (eqb b 0) false (from s node source b)
 
 -- the first place whose item passes the test; the first item of the list stands at place i
-unfoldable pub firstFrom : (ℕ → Bool) → ℕ → List ℕ → Found
-firstFrom p i [] = Nothing
-firstFrom p i (x ∷ xs) = cond (p x) (At i) (firstFrom p (i + 1) xs)
+unfoldable pub first_from : (ℕ → Bool) → ℕ → List ℕ → Found
+first_from p i [] = Nothing
+first_from p i (x ∷ xs) = cond (p x) (At i) (first_from p (i + 1) xs)
 
 -- 'Source 0 takes the first letter; otherwise the first from that source'
 abbrev pub found : Settings → List ℕ → ℕ → ℕ → Found
-found s node q source = firstFrom (wanted s node source) 0 (contents (taskKind s) node q)
+found s node q source = first_from (wanted s node source) 0 (contents (task_kind s) node q)
 
 -- what stands at place i: the wanted letter, the queue's end, or something to pass over
 unfoldable pub seen : Settings → List ℕ → ℕ → ℕ → ℕ → Seen
 seen s node q source i =
-    cond (leb (items (taskKind s) node q) i) End (cond (wanted s node source (item_at (taskKind s) node q i)) Here Past)
+    cond (leb (items (task_kind s) node q) i) End (cond (wanted s node source (item_at (task_kind s) node q i)) Here Past)
 
 -- a task queue in a node's stretch, with items 0 to M
 pub record Findable (s : Settings) (node : List ℕ) (q : ℕ) : Type 0 where
   pub stretch : Stretch s node
-  pub queue : Queue (taskKind s) node q
-  pub blocks : (i : ℕ) → i < items (taskKind s) node q → item_at (taskKind s) node q i ≤ s.m
+  pub queue : Queue (task_kind s) node q
+  pub blocks : (i : ℕ) → i < items (task_kind s) node q → item_at (task_kind s) node q i ≤ s.m

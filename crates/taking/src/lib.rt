@@ -1,10 +1,10 @@
 // Finding a letter in a task queue, and taking an item out of it.
 ghost use Rattle.std.specs.Prelude.{◌≡◌, ◌≤◌, ◌<◌};
 ghost use Rattle.layout.specs.Asked.{Stretch};
-ghost use Rattle.queues.specs.Queue.{Queue, items, contents, taskKind};
-ghost use Rattle.queues.specs.Items.{gapFlag};
+ghost use Rattle.queues.specs.Queue.{Queue, items, contents, task_kind};
+ghost use Rattle.queues.specs.Items.{gap_flag};
 ghost use Rattle.taking.specs.Find.{from, seen, found, Findable};
-ghost use Rattle.taking.specs.Take.{cleared, out, takenOut, Place};
+ghost use Rattle.taking.specs.Take.{cleared, out, taken_out, Place};
 
 use queues::Kind;
 use settings::Settings;
@@ -92,7 +92,7 @@ fn drop_zeroes(node: &mut [u32], k: Kind, q: usize)
 // 1 if an item is 0, else 0.
 pub fn gap_flag(node: &[u32], k: Kind, q: usize) -> u32
     requires { Queue k node.now q }
-    ensures { result ≡ gapFlag (contents k node.now q) }
+    ensures { result ≡ gap_flag (contents k node.now q) }
 {
     let items = queues::items_of(node, k, q);
     let mut i: usize = 0;
@@ -123,8 +123,8 @@ fn take(node: &mut [u32], k: Kind, q: usize, i: usize)
 
 // Takes the item at place i out of a task queue, and sets its flag.
 pub fn take_out(node: &mut [u32], s: Settings, q: usize, i: usize)
-    requires { Place (taskKind s) node.old q i }
-    ensures { node.new ≡ takenOut s node.old q i }
+    requires { Place (task_kind s) node.old q i }
+    ensures { node.new ≡ taken_out s node.old q i }
 {
     let k = queues::task_kind(s);
     take(node, k, q, i);

@@ -1,14 +1,14 @@
 // The task table: the test of its rule, and where a task sits.
 ghost use Rattle.std.specs.Prelude.{◌≡◌, ◌<◌, length, replicate, true, ◌&&◌};
-ghost use Rattle.layout.specs.Places.{tableWords, taskIds};
-ghost use Rattle.tasks.specs.Table.{holdsNone, seated, apart, rightTable};
-ghost use Rattle.tasks.specs.Seat.{seatOf, seatRow};
+ghost use Rattle.layout.specs.Places.{table_words, task_ids};
+ghost use Rattle.tasks.specs.Table.{holds_none, seated, apart, right_table};
+ghost use Rattle.tasks.specs.Seat.{seat_of, seat_row};
 
 // Whether the id holds 255, 0.
 fn holds_none(table: &[u32], id: usize) -> bool
-    requires table_len { length table.now ≡ tableWords }
-    requires id_lt_task_ids { id < taskIds }
-    ensures { result ≡ holdsNone table.now id }
+    requires table_len { length table.now ≡ table_words }
+    requires id_lt_task_ids { id < task_ids }
+    ensures { result ≡ holds_none table.now id }
 {
     if table[id * 2] != 255 {
         return false;
@@ -18,11 +18,11 @@ fn holds_none(table: &[u32], id: usize) -> bool
 
 // Whether each id below 256 is unbound or sits where no other does; puts each on its seat.
 fn seat_each(table: &[u32], seats: &mut [u8; 384]) -> bool
-    requires table_len { length table.now ≡ tableWords }
-    requires table_value { holdsNone table.now 0 ≡ true }
+    requires table_len { length table.now ≡ table_words }
+    requires table_value { holds_none table.now 0 ≡ true }
     requires seats_value { seats.old ≡ replicate 384 0 }
     ensures answer { result ≡ seated table.now && apart table.now }
-    ensures row { result ≡ true → seats.new ≡ seatRow table.now taskIds }
+    ensures row { result ≡ true → seats.new ≡ seat_row table.now task_ids }
 {
     let mut id = 0;
     while id < 256 {
@@ -48,10 +48,10 @@ fn seat_each(table: &[u32], seats: &mut [u8; 384]) -> bool
 
 // The second rule of a sound memory, for a table of 512 words; puts each task on its seat where the rule holds.
 pub fn seat_tasks(table: &[u32], seats: &mut [u8; 384]) -> bool
-    requires table_len { length table.now ≡ tableWords }
+    requires table_len { length table.now ≡ table_words }
     requires seats_value { seats.old ≡ replicate 384 0 }
-    ensures answer { result ≡ rightTable table.now }
-    ensures row { result ≡ true → seats.new ≡ seatRow table.now taskIds }
+    ensures answer { result ≡ right_table table.now }
+    ensures row { result ≡ true → seats.new ≡ seat_row table.now task_ids }
 {
     if !holds_none(table, 0) {
         return false;
@@ -61,7 +61,7 @@ pub fn seat_tasks(table: &[u32], seats: &mut [u8; 384]) -> bool
 
 // The second rule of a sound memory, for a table of any length and content.
 pub fn is_right(table: &[u32]) -> bool
-    ensures { result ≡ rightTable table.now }
+    ensures { result ≡ right_table table.now }
 {
     if table.len() != 512 {
         return false;
@@ -79,8 +79,8 @@ pub enum Seat {
 
 // The node and the queue of any task number, or that it is bound to none.
 pub fn seat_of(table: &[u32], task: u32) -> Seat
-    requires { length table.now ≡ tableWords }
-    ensures { result ≡ seatOf table.now task }
+    requires { length table.now ≡ table_words }
+    ensures { result ≡ seat_of table.now task }
 {
     if 255 < task {
         return Seat::Unbound;

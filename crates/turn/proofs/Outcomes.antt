@@ -6,11 +6,11 @@ use Prim.Native.Nat.{ℕ, ◌≤◌, ◌<◌}
 use native.Mathlib.Omega.{arith}
 use lib.ListN.{length}
 use Rattle.settings.specs.declared.Settings.{Settings}
-use Rattle.layout.specs.Places.{nodesAt}
-use Rattle.layout.proofs.Fits.{nodes-fit}
-use Rattle.sound.specs.Reading.{settingsIn, turnIn}
+use Rattle.layout.specs.Places.{nodes_at}
+use Rattle.layout.proofs.Fits.{nodes_fit}
+use Rattle.sound.specs.Reading.{settings_in, turn_in}
 use Rattle.sound.specs.Sound.{sound}
-use Rattle.sound.proofs.Gives.{gives-sized, gives-turn}
+use Rattle.sound.proofs.Gives.{gives_sized, gives_turn}
 use Rattle.postman.specs.declared.Stage.{Stage}
 use Rattle.postman.specs.declared.Stage.TheVariants.{Done, Stopped as Halted}
 use Rattle.postman.specs.declared.Position.{Position}
@@ -37,13 +37,13 @@ module _ (j : ℕ) (r : Round) (h : Stage) where
 
 -- ---- a sound memory
 module _ (m : List ℕ) (e : sound m ≡ true) where
-  pub sound-long : nodesAt ≤ length m
-  sound-long = omega (arith, (gives-sized m e).long, nodes-fit (settingsIn m))
+  pub sound-long : nodes_at ≤ length m
+  sound-long = omega (arith, (gives_sized m e).long, nodes_fit (settings_in m))
 
-  pub sound-turn : turnIn m < 6
-  sound-turn = omega (arith, gives-turn m e)
+  pub sound-turn : turn_in m < 6
+  sound-turn = omega (arith, gives_turn m e)
 
-  module _ {s : Settings} {j : ℕ} {p : Position} (es : s ≡ settingsIn m) (ej : j ≡ turnIn m) (ep : p ≡ position_of m j) where
+  module _ {s : Settings} {j : ℕ} {p : Position} (es : s ≡ settings_in m) (ej : j ≡ turn_in m) (ep : p ≡ position_of m j) where
     pub sound-stands : SoundAt s m j p
     sound-stands = rw (ep, ej, es) (begins m e)
 
@@ -51,12 +51,12 @@ module _ (m : List ℕ) (e : sound m ≡ true) where
         → out a m₂ ≡ turn m
     unfolding turn taken
     sound-turned {m₁} {m₂} {r} {a} eg em ea =
-        let q : post m₁ r ≡ gone (settingsIn m) (turnIn m) m (position_of m (turnIn m)) at_start = eg ∙ rw (ep, ej, es) in
-        let f : m₂ ≡ kept m₁ (turnIn m) r.position = rw ej at em in
-        let h : a ≡ answered (turnIn m) r r.how = rw ej at ea in
-        ap₂ out h f ∙ ap (λ (x : Post). out (answered (turnIn m) x.round x.round.how) (kept x.memory (turnIn m) x.round.position)) q ∙ rw e
+        let q : post m₁ r ≡ gone (settings_in m) (turn_in m) m (position_of m (turn_in m)) at_start = eg ∙ rw (ep, ej, es) in
+        let f : m₂ ≡ kept m₁ (turn_in m) r.position = rw ej at em in
+        let h : a ≡ answered (turn_in m) r r.how = rw ej at ea in
+        ap₂ out h f ∙ ap (λ (x : Post). out (answered (turn_in m) x.round x.round.how) (kept x.memory (turn_in m) x.round.position)) q ∙ rw e
 
 -- a memory that is not sound is refused by 1, and nothing changes
-pub not_sound : (m : List ℕ) → sound m ≡ false → out NotSound m ≡ turn m
+pub not_sound_lem : (m : List ℕ) → sound m ≡ false → out NotSound m ≡ turn m
 unfolding turn
-not_sound m e = rw e
+not_sound_lem m e = rw e

@@ -1,9 +1,9 @@
 -- What a turn answers and leaves, for any memory: 'Turn', 'What comes back'.
 use Rattle.std.specs.Prelude.{cond, List, ℕ}
-use Rattle.sound.specs.Reading.{settingsIn, turnIn}
+use Rattle.sound.specs.Reading.{settings_in, turn_in}
 use Rattle.sound.specs.Sound.{sound}
 use Rattle.answers.specs.declared.Answer.{Answer}
-use Rattle.answers.specs.Numbers.{bare, done, notSound}
+use Rattle.answers.specs.Numbers.{bare, done, not_sound}
 use Rattle.postman.specs.declared.Stage.{Stage}
 use Rattle.postman.specs.declared.Stage.TheVariants.{Done, Stopped as Halted}
 use Rattle.postman.specs.declared.Round.{Round}
@@ -17,7 +17,7 @@ use Rattle.turn.specs.declared.Turned.TheVariants.{Finished, Stopped, NotSound}
 abbrev pub told : Turned → Answer
 told (Finished j letters back) = record { number = done; first = j; second = letters; third = back }
 told (Stopped number j letters back) = record { number = number; first = j; second = letters; third = back }
-told NotSound = bare notSound
+told NotSound = bare not_sound
 
 -- what a turn answers, and the memory after it
 pub record Outcome : Type 0 where
@@ -31,8 +31,8 @@ answered j r (Halted number) = Stopped number j r.letters r.back
 -- 'Node j, whose turn it is'
 unfoldable pub taken : List ℕ → Outcome
 taken m =
-    let j = turnIn m in
-    let p = gone (settingsIn m) j m (position_of m j) at_start in
+    let j = turn_in m in
+    let p = gone (settings_in m) j m (position_of m j) at_start in
     record { answer = answered j p.round p.round.how; memory = kept p.memory j p.round.position }
 
 unfoldable pub turn : List ℕ → Outcome

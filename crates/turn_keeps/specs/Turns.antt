@@ -2,15 +2,15 @@
 use Rattle.std.specs.Prelude.{◌≡◌, List, ℕ, length}
 use Rattle.machine.specs.Machine.{Machine}
 use Rattle.stages_keep.specs.Way.{SameWay, Carries}
-use Rattle.postman.specs.Position.{nextTurn}
+use Rattle.postman.specs.Position.{next_turn}
 use Rattle.turn.specs.declared.Turned.{Turned}
 use Rattle.turn.specs.declared.Turned.TheVariants.{Finished, Stopped, NotSound}
 
 -- 'letters appended to task queues', as the answer tells them
-abbrev pub lettersOf : Turned → ℕ
-lettersOf (Finished j letters back) = letters
-lettersOf (Stopped number j letters back) = letters
-lettersOf NotSound = 0
+abbrev pub letters_of : Turned → ℕ
+letters_of (Finished j letters back) = letters
+letters_of (Stopped number j letters back) = letters
+letters_of NotSound = 0
 
 -- the turn of node j, finished or stopped
 pub record Turns (table : List ℕ) (before after : Machine) (j letters : ℕ) : Type 0 where
@@ -22,4 +22,4 @@ pub record Turns (table : List ℕ) (before after : Machine) (j letters : ℕ) :
   -- for every sender and receiver the letters on the way are the same letters in the same order
   pub way : SameWay table before after
   -- 'Whose turn always moves on'
-  pub next : after.turn ≡ nextTurn j
+  pub next : after.turn ≡ next_turn j

@@ -7,50 +7,50 @@ use native.Mathlib.Omega.{arith}
 use lib.Dec.{eqb}
 use lib.ListN.{length, get_or}
 use Rattle.words.specs.Words.{all}
-use Rattle.words.proofs.Lists.{and-true, and-false, told-no, told-yes}
+use Rattle.words.proofs.Lists.{and-true, and-false, told_no, told_yes}
 use Rattle.settings.specs.declared.Settings.{Settings}
-use Rattle.tasks.specs.Table.{node_of, isBound}
-use Rattle.tasks.specs.Seat.{seatOf}
+use Rattle.tasks.specs.Table.{node_of, is_bound}
+use Rattle.tasks.specs.Seat.{seat_of}
 use Rattle.tasks.specs.declared.Seat.TheVariants.{At, Unbound}
 use Rattle.tasks.proofs.Laws.{told-unbound, told_at}
 use Rattle.queues.specs.Items.{live}
-use Rattle.queues.proofs.Items.{live-cons}
+use Rattle.queues.proofs.Items.{live_cons}
 use Rattle.blocks.proofs.Moves.{length-list}
-use Rattle.sound.specs.Letters.{chainFrom, endsWell, wordsFrom, rightLength, rightHeader}
+use Rattle.sound.specs.Letters.{chain_from, ends_well, words_from, right_length, right_header}
 use Rattle.sound.specs.Blocks.{chains}
-use Rattle.sound.proofs.Tests.{and_assoc, and_yes, and-cross, all_append}
+use Rattle.sound.proofs.Tests.{and_assoc, and_yes, and_cross, all_append}
 use Rattle.visits.specs.declared.Walk.{Walk}
 use Rattle.visits.specs.declared.Asks.{Asks}
 use Rattle.visits.specs.declared.Walk.TheVariants.{Ended, Bad}
-use Rattle.visits.specs.Marks.{fresh, marked, endsWithin, clean, Visited}
-use Rattle.visits.specs.Letters.{isOn, isAsked, meets, letterRight, lettersRight, Judged}
+use Rattle.visits.specs.Marks.{fresh, marked, ends_within, clean, Visited}
+use Rattle.visits.specs.Letters.{is_on, is_asked, meets, letter_right, letters_right, Judged}
 use Rattle.visits.proofs.Walks.{fresh-append, marked_append}
 
 -- ---- the header
 module _ (t : List ℕ) (task node : ℕ) where
-  pub on-no : seatOf t task ≡ Unbound → false ≡ isOn t task node
-  unfolding isOn
-  on-no e = rw (told-unbound t task e)
+  pub on_no : seat_of t task ≡ Unbound → false ≡ is_on t task node
+  unfolding is_on
+  on_no e = rw (told-unbound t task e)
 
-  pub on-at : (n q : ℕ) → seatOf t task ≡ At n q → eqb n node ≡ isOn t task node
-  unfolding isOn
-  on-at n q e = let w = told_at t task n q e in rw (w.0, w.1.0)
+  pub on_at : (n q : ℕ) → seat_of t task ≡ At n q → eqb n node ≡ is_on t task node
+  unfolding is_on
+  on_at n q e = let w = told_at t task n q e in rw (w.0, w.1.0)
 
 module _ (t : List ℕ) (asks : Asks) (ws : List ℕ) where
-  pub header_is : rightHeader t ws ≡ isOn t (get_or ws 0 0) (get_or ws 1 0) && isOn t (get_or ws 2 0) (get_or ws 3 0)
-  unfolding rightHeader isOn
-  header_is = sym (and_assoc (isBound t (get_or ws 0 0)) (eqb (node_of t (get_or ws 0 0)) (get_or ws 1 0)) _)
+  pub header_is : right_header t ws ≡ is_on t (get_or ws 0 0) (get_or ws 1 0) && is_on t (get_or ws 2 0) (get_or ws 3 0)
+  unfolding right_header is_on
+  header_is = sym (and_assoc (is_bound t (get_or ws 0 0)) (eqb (node_of t (get_or ws 0 0)) (get_or ws 1 0)) _)
 
-  pub header-first : (a b : ℕ) → a ≡ get_or ws 0 0 → b ≡ get_or ws 1 0 → isOn t a b ≡ false → false ≡ rightHeader t ws && meets asks ws
-  header-first a b ea eb f = rw (header_is, sym (ap₂ (isOn t) ea eb) ∙ f)
+  pub header_first : (a b : ℕ) → a ≡ get_or ws 0 0 → b ≡ get_or ws 1 0 → is_on t a b ≡ false → false ≡ right_header t ws && meets asks ws
+  header_first a b ea eb f = rw (header_is, sym (ap₂ (is_on t) ea eb) ∙ f)
 
   -- the words a, b, c, d of a header
   module _ (a b c d : ℕ) (ea : a ≡ get_or ws 0 0) (eb : b ≡ get_or ws 1 0) (ec : c ≡ get_or ws 2 0) (ed : d ≡ get_or ws 3 0) where
-    pub header-second : isOn t c d ≡ false → false ≡ rightHeader t ws && meets asks ws
-    header-second f = rw (header_is, sym (ap₂ (isOn t) ec ed) ∙ f, and-false (isOn t (get_or ws 0 0) (get_or ws 1 0)))
+    pub header_second : is_on t c d ≡ false → false ≡ right_header t ws && meets asks ws
+    header_second f = rw (header_is, sym (ap₂ (is_on t) ec ed) ∙ f, and-false (is_on t (get_or ws 0 0) (get_or ws 1 0)))
 
-    pub header-yes : isOn t a b ≡ true → isOn t c d ≡ true → (r : Bool) → r ≡ isAsked asks b c d → r ≡ rightHeader t ws && meets asks ws
-    header-yes f g r e = rw (header_is, sym (ap₂ (isOn t) ea eb) ∙ f, sym (ap₂ (isOn t) ec ed) ∙ g) (e ∙ rw (eb, ec, ed))
+    pub header_yes : is_on t a b ≡ true → is_on t c d ≡ true → (r : Bool) → r ≡ is_asked asks b c d → r ≡ right_header t ws && meets asks ws
+    header_yes f g r e = rw (header_is, sym (ap₂ (is_on t) ea eb) ∙ f, sym (ap₂ (is_on t) ec ed) ∙ g) (e ∙ rw (eb, ec, ed))
 
 -- ---- letters joined
 module _ (s : Settings) (l t : List ℕ) (asks : Asks) where
@@ -58,55 +58,55 @@ module _ (s : Settings) (l t : List ℕ) (asks : Asks) where
   unfolding chains
   chains-append [] ys = refl
   chains-append (a ∷ xs) ys =
-      ap (λ (c : List ℕ). chainFrom s l a ++ c) (chains-append xs ys) ∙ sym (append_assoc (chainFrom s l a) (chains s l xs) (chains s l ys))
+      ap (λ (c : List ℕ). chain_from s l a ++ c) (chains-append xs ys) ∙ sym (append_assoc (chain_from s l a) (chains s l xs) (chains s l ys))
 
   module _ (marks : List ℕ) where
-    pub right-none : lettersRight s l t asks marks [] ≡ true
-    unfolding lettersRight all chains fresh
-    right-none = refl
+    pub right_none : letters_right s l t asks marks [] ≡ true
+    unfolding letters_right all chains fresh
+    right_none = refl
 
-    pub marks-none : marked marks (chains s l []) ≡ marks
+    pub marks_none : marked marks (chains s l []) ≡ marks
     unfolding chains marked
-    marks-none = refl
+    marks_none = refl
 
-    pub right-append : (xs ys : List ℕ) → lettersRight s l t asks marks (xs ++ ys) ≡ lettersRight s l t asks marks xs && lettersRight s l t asks (marked marks (chains s l xs)) ys
-    unfolding lettersRight
-    right-append xs ys =
-        ap₂ ◌&&◌ (all_append (letterRight s l t asks) xs ys) (ap (fresh marks) (chains-append xs ys) ∙ fresh-append marks (chains s l xs) (chains s l ys))
-        ∙ and-cross (all (letterRight s l t asks) xs) (all (letterRight s l t asks) ys) (fresh marks (chains s l xs)) (fresh (marked marks (chains s l xs)) (chains s l ys))
+    pub right_append : (xs ys : List ℕ) → letters_right s l t asks marks (xs ++ ys) ≡ letters_right s l t asks marks xs && letters_right s l t asks (marked marks (chains s l xs)) ys
+    unfolding letters_right
+    right_append xs ys =
+        ap₂ ◌&&◌ (all_append (letter_right s l t asks) xs ys) (ap (fresh marks) (chains-append xs ys) ∙ fresh-append marks (chains s l xs) (chains s l ys))
+        ∙ and_cross (all (letter_right s l t asks) xs) (all (letter_right s l t asks) ys) (fresh marks (chains s l xs)) (fresh (marked marks (chains s l xs)) (chains s l ys))
 
     pub marks-append : (xs ys : List ℕ) → marked marks (chains s l (xs ++ ys)) ≡ marked (marked marks (chains s l xs)) (chains s l ys)
     marks-append xs ys = ap (marked marks) (chains-append xs ys) ∙ marked_append marks (chains s l xs) (chains s l ys)
 
     -- one letter
     module _ (b : ℕ) where
-      pub gap-judged : b ≡ 0 → Judged (lettersRight s l t asks marks (live (b ∷ []))) (marked marks (chains s l (live (b ∷ [])))) true marks
+      pub gap_judged : b ≡ 0 → Judged (letters_right s l t asks marks (live (b ∷ []))) (marked marks (chains s l (live (b ∷ [])))) true marks
       unfolding live
-      gap-judged z = rw z (record { is = sym right-none; marks = λ e. sym marks-none })
+      gap_judged z = rw z (record { is = sym right_none; marks = λ e. sym marks_none })
 
       module _ (h : b ≡ 0 → ⊥) where
         one : live (b ∷ []) ≡ b ∷ []
         unfolding live
-        one = live-cons b [] h
+        one = live_cons b [] h
 
-        right-one : lettersRight s l t asks marks (live (b ∷ [])) ≡ letterRight s l t asks b && fresh marks (chainFrom s l b)
-        unfolding lettersRight all chains
-        right-one = rw (one, append-nil (chainFrom s l b), and_yes (letterRight s l t asks b))
+        right_one : letters_right s l t asks marks (live (b ∷ [])) ≡ letter_right s l t asks b && fresh marks (chain_from s l b)
+        unfolding letters_right all chains
+        right_one = rw (one, append-nil (chain_from s l b), and_yes (letter_right s l t asks b))
 
-        marks-one : marked marks (chains s l (live (b ∷ []))) ≡ marked marks (chainFrom s l b)
+        marks_one : marked marks (chains s l (live (b ∷ []))) ≡ marked marks (chain_from s l b)
         unfolding chains
-        marks-one = rw (one, append-nil (chainFrom s l b))
+        marks_one = rw (one, append-nil (chain_from s l b))
 
-        judged-no : (new : List ℕ) → letterRight s l t asks b && fresh marks (chainFrom s l b) ≡ false
-            → Judged (lettersRight s l t asks marks (live (b ∷ []))) (marked marks (chains s l (live (b ∷ [])))) false new
-        judged-no new e = record { is = sym (right-one ∙ e); marks = λ f. absurd (false≢true f) }
+        judged_no : (new : List ℕ) → letter_right s l t asks b && fresh marks (chain_from s l b) ≡ false
+            → Judged (letters_right s l t asks marks (live (b ∷ []))) (marked marks (chains s l (live (b ∷ [])))) false new
+        judged_no new e = record { is = sym (right_one ∙ e); marks = λ f. absurd (false≢true f) }
 
         module _ (r : Walk) (new : List ℕ) (v : Visited s l s.m b marks r new) where
-          pub letter-bad : r ≡ Bad → Judged (lettersRight s l t asks marks (live (b ∷ []))) (marked marks (chains s l (live (b ∷ [])))) false new
-          unfolding letterRight clean endsWithin endsWell
-          letter-bad e =
-              let c : clean s l s.m b marks ≡ false = told-no (clean s l s.m b marks) (Ended (s.m - length (chainFrom s l b))) Bad r v.is (λ z. apart z) e in
-              judged-no new (both (endsWell s l b) _ (fresh marks (chainFrom s l b)) c)
+          pub letter_bad : r ≡ Bad → Judged (letters_right s l t asks marks (live (b ∷ []))) (marked marks (chains s l (live (b ∷ [])))) false new
+          unfolding letter_right clean ends_within ends_well
+          letter_bad e =
+              let c : clean s l s.m b marks ≡ false = told_no (clean s l s.m b marks) (Ended (s.m - length (chain_from s l b))) Bad r v.is (λ z. apart z) e in
+              judged_no new (both (ends_well s l b) _ (fresh marks (chain_from s l b)) c)
             where
               apart : {n : ℕ} → Ended n ≡ Bad → ⊥
               apart z = let y : ◌≡◌ {A = ℕ} 0 1 = cc in omega arith
@@ -116,38 +116,38 @@ module _ (s : Settings) (l t : List ℕ) (asks : Asks) where
               both false x f e = refl
 
           module _ (left : ℕ) (e : r ≡ Ended left) where
-            known : (clean s l s.m b marks ≡ true) × (s.m - length (chainFrom s l b) ≡ left)
+            known : (clean s l s.m b marks ≡ true) × (s.m - length (chain_from s l b) ≡ left)
             known =
-                let w = told-yes (clean s l s.m b marks) (Ended (s.m - length (chainFrom s l b))) Bad r v.is (Ended left) (λ z. apart z) e in
+                let w = told_yes (clean s l s.m b marks) (Ended (s.m - length (chain_from s l b))) Bad r v.is (Ended left) (λ z. apart z) e in
                 let q = w.1 in
                 (w.0, cc)
               where
                 apart : Ended left ≡ Bad → ⊥
                 apart z = let y : ◌≡◌ {A = ℕ} 0 1 = cc in omega arith
 
-            pub its-ends : endsWell s l b ≡ true
-            unfolding clean endsWithin endsWell
-            its-ends = (and-true (endsWell s l b) (fresh marks (chainFrom s l b)) known.0).0
+            pub its_ends : ends_well s l b ≡ true
+            unfolding clean ends_within ends_well
+            its_ends = (and-true (ends_well s l b) (fresh marks (chain_from s l b)) known.0).0
 
-            its_fresh : fresh marks (chainFrom s l b) ≡ true
-            unfolding clean endsWithin endsWell
-            its_fresh = (and-true (endsWell s l b) (fresh marks (chainFrom s l b)) known.0).1
+            its_fresh : fresh marks (chain_from s l b) ≡ true
+            unfolding clean ends_within ends_well
+            its_fresh = (and-true (ends_well s l b) (fresh marks (chain_from s l b)) known.0).1
 
             pub left-least : left ≤ s.m
             left-least = let k = known.1 in omega arith
 
-            pub its-count : s.m - left ≡ length (chainFrom s l b)
-            its-count = let k = known.1 in omega (arith, length-list s l s.m b)
+            pub its_count : s.m - left ≡ length (chain_from s l b)
+            its_count = let k = known.1 in omega (arith, length-list s l s.m b)
 
-            pub letter-short : rightLength s l b ≡ false → Judged (lettersRight s l t asks marks (live (b ∷ []))) (marked marks (chains s l (live (b ∷ [])))) false new
-            unfolding letterRight
-            letter-short f = judged-no new (rw (its-ends, f))
+            pub letter_short : right_length s l b ≡ false → Judged (letters_right s l t asks marks (live (b ∷ []))) (marked marks (chains s l (live (b ∷ [])))) false new
+            unfolding letter_right
+            letter_short f = judged_no new (rw (its_ends, f))
 
-            pub letter-head : rightLength s l b ≡ true → (d : Bool) → d ≡ rightHeader t (wordsFrom s l b) && meets asks (wordsFrom s l b)
-                → Judged (lettersRight s l t asks marks (live (b ∷ []))) (marked marks (chains s l (live (b ∷ [])))) d new
-            unfolding letterRight
-            letter-head f d q =
+            pub letter_head : right_length s l b ≡ true → (d : Bool) → d ≡ right_header t (words_from s l b) && meets asks (words_from s l b)
+                → Judged (letters_right s l t asks marks (live (b ∷ []))) (marked marks (chains s l (live (b ∷ [])))) d new
+            unfolding letter_right
+            letter_head f d q =
                 record {
-                  is = sym (right-one ∙ rw (its-ends, f, its_fresh, and_yes (rightHeader t (wordsFrom s l b) && meets asks (wordsFrom s l b))) (sym q));
-                  marks = λ y. v.marks known.0 ∙ sym marks-one;
+                  is = sym (right_one ∙ rw (its_ends, f, its_fresh, and_yes (right_header t (words_from s l b) && meets asks (words_from s l b))) (sym q));
+                  marks = λ y. v.marks known.0 ∙ sym marks_one;
                 }

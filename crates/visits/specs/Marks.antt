@@ -20,13 +20,13 @@ marked marks (x ∷ l) = marked (set marks x 1) l
 
 module _ (s : Settings) (stretch : List ℕ) (n b : ℕ) where
   -- of n blocks at most from b on, each is a block 1 to M, and the last link is 0
-  unfoldable pub endsWithin : Bool
-  endsWithin =
+  unfoldable pub ends_within : Bool
+  ends_within =
       all (λ x. leb 1 x && leb x s.m) (list s stretch n b) && eqb (after s stretch (length (list s stretch n b)) b) 0
 
   -- and none has a mark
   unfoldable pub clean : List ℕ → Bool
-  clean marks = endsWithin && fresh marks (list s stretch n b)
+  clean marks = ends_within && fresh marks (list s stretch n b)
 
 -- what a visit answers: of the n blocks at most, how many were not there; it marks those that were
 pub record Visited (s : Settings) (stretch : List ℕ) (n b : ℕ) (old : List ℕ) (r : Walk) (new : List ℕ) : Type 0 where
@@ -40,11 +40,11 @@ pub record Linked (words : List ℕ) (before width m : ℕ) : Type 0 where
   pub few : m ≤ 1024
 
 -- what a visit answers, by a number: 0 for a bad chain, else one more than how many blocks were not there
-unfoldable pub toldBy : ℕ → Walk
-toldBy zero = Bad
-toldBy (suc n) = Ended n
+unfoldable pub told_by : ℕ → Walk
+told_by zero = Bad
+told_by (suc n) = Ended n
 
 -- a walk by such numbers is a visit in each stretch that they are of
 abbrev pub Walked : List ℕ → ℕ → ℕ → ℕ → ℕ → ℕ → List ℕ → ℕ → List ℕ → Type 0
 Walked words before width m n b old r new =
-    (s : Settings) → Stretch s words → before ≡ block_at s 1 - 1 → width ≡ s.b → m ≡ s.m → Visited s words n b old (toldBy r) new
+    (s : Settings) → Stretch s words → before ≡ block_at s 1 - 1 → width ≡ s.b → m ≡ s.m → Visited s words n b old (told_by r) new

@@ -1,18 +1,18 @@
 // Visiting the chains of a node: each block is marked once, and each letter is looked at.
 ghost use Rattle.std.specs.Prelude.{◌≡◌, ◌&&◌, [], ◌∷◌, ◌≤◌, length};
 ghost use Rattle.layout.specs.Asked.{Stretch};
-ghost use Rattle.layout.specs.Places.{tableWords};
+ghost use Rattle.layout.specs.Places.{table_words};
 ghost use Rattle.queues.specs.Items.{live};
-ghost use Rattle.sound.specs.Letters.{rightLength, rightHeader, wordsFrom};
+ghost use Rattle.sound.specs.Letters.{right_length, right_header, words_from};
 ghost use Rattle.sound.specs.Blocks.{chains};
 ghost use Rattle.visits.specs.Marks.{marked, Visited, Linked, Walked};
 ghost use Rattle.visits.specs.Letters.{
   Whole,
   Readable,
-  isOn,
-  isAsked,
+  is_on,
+  is_asked,
   meets,
-  lettersRight,
+  letters_right,
   Judged,
 };
 
@@ -84,7 +84,7 @@ pub fn visit(node: &[u32], s: Settings, marks: &mut [u8; 1025], b: u32) -> Walk
 // header tells no length.
 fn is_right_length(node: &[u32], s: Settings, b: u32, count: usize) -> bool
     requires { Whole s node.now b count }
-    ensures { result ≡ rightLength s node.now b }
+    ensures { result ≡ right_length s node.now b }
 {
     if count * (s.b - 1) < 5 {
         return false;
@@ -101,8 +101,8 @@ fn is_right_length(node: &[u32], s: Settings, b: u32, count: usize) -> bool
 
 // Whether the task is bound, and on that node.
 fn is_on(table: &[u32], task: u32, node: u32) -> bool
-    requires { length table.now ≡ tableWords }
-    ensures { result ≡ isOn table.now task node }
+    requires { length table.now ≡ table_words }
+    ensures { result ≡ is_on table.now task node }
 {
     let seat = tasks::seat_of(table, task);
     let Seat::At(own, _) = seat else {
@@ -113,7 +113,7 @@ fn is_on(table: &[u32], task: u32, node: u32) -> bool
 
 // Whether a header is what the place asks for: its source node, its destination task and its destination node.
 fn is_asked(asks: Asks, from: u32, task: u32, to: u32) -> bool
-    ensures { result ≡ isAsked asks from task to }
+    ensures { result ≡ is_asked asks from task to }
 {
     match asks {
         Asks::Any => true,
@@ -130,8 +130,8 @@ fn is_asked(asks: Asks, from: u32, task: u32, to: u32) -> bool
 // Whether the letter that block b begins has a header of bound tasks on their nodes, and what its place asks for.
 fn is_right_header(node: &[u32], s: Settings, table: &[u32], asks: Asks, b: u32) -> bool
     requires readable { Readable s node.now b }
-    requires table_len { length table.now ≡ tableWords }
-    ensures { result ≡ (rightHeader table.now (wordsFrom s node.now b) && meets asks (wordsFrom s node.now b)) }
+    requires table_len { length table.now ≡ table_words }
+    ensures { result ≡ (right_header table.now (words_from s node.now b) && meets asks (words_from s node.now b)) }
 {
     let from = letters::word_of(node, s, b, 1);
     if !is_on(table, letters::word_of(node, s, b, 0), from) {
@@ -155,8 +155,8 @@ pub fn is_right_letter(
     b: u32,
 ) -> bool
     requires stretch { Stretch s node.now }
-    requires table_len { length table.now ≡ tableWords }
-    ensures { Judged (lettersRight s node.now table.now asks marks.old (live (b ∷ []))) (marked marks.old (chains s node.now (live (b ∷ [])))) result marks.new }
+    requires table_len { length table.now ≡ table_words }
+    ensures { Judged (letters_right s node.now table.now asks marks.old (live (b ∷ []))) (marked marks.old (chains s node.now (live (b ∷ [])))) result marks.new }
 {
     if b == 0 {
         return true;

@@ -5,11 +5,11 @@ use Prim.Native.Nat.{ℕ, zero, suc, ◌+◌, ◌≤◌, ◌<◌}
 use native.Mathlib.Omega.{arith}
 use lib.ListN.{length, take, drop, take-append-drop}
 use borrow.Author.Tests.{eq-eqb, ne_eqb}
-use Rattle.words.specs.Count.{hit, occurs, sum, downFrom}
+use Rattle.words.specs.Count.{hit, occurs, sum, down_from}
 use Rattle.words.proofs.Lists.{put, same?}
 
-pub hit-self : (b : ℕ) → hit b b ≡ 1
-hit-self b = rw (eq-eqb b b refl)
+pub hit_self : (b : ℕ) → hit b b ≡ 1
+hit_self b = rw (eq-eqb b b refl)
 
 pub hit_other : (b x : ℕ) → (b ≡ x → ⊥) → hit b x ≡ 0
 hit_other b x h = rw (ne_eqb b x h)
@@ -37,58 +37,58 @@ module _ {ℓ} {B : Type ℓ} (h : B → ℕ) (f : ℕ → B) (k : ℕ) (v : B) 
       (λ a b. rw (sum-out n (omega arith), a, eq-eqb k k refl) (omega arith))
       (λ a b. rw b (omega (arith, sum-put n (omega arith))))
 
-pub sum-le : (n : ℕ) (f : ℕ → ℕ) (k : ℕ) → k < n → f k ≤ sum n f
+pub sum_le : (n : ℕ) (f : ℕ → ℕ) (k : ℕ) → k < n → f k ≤ sum n f
 unfolding sum
-sum-le zero f k l = absurd (omega arith)
-sum-le (suc n) f k l = same? n k (λ q e. omega (arith, ap f q)) (λ q e. omega (arith, sum-le n f k (omega arith)))
+sum_le zero f k l = absurd (omega arith)
+sum_le (suc n) f k l = same? n k (λ q e. omega (arith, ap f q)) (λ q e. omega (arith, sum_le n f k (omega arith)))
 
 -- two different places have no more together than all
-pub sum-two : (n : ℕ) (f : ℕ → ℕ) (j k : ℕ) → j < n → k < n → (j ≡ k → ⊥) → f j + f k ≤ sum n f
+pub sum_two : (n : ℕ) (f : ℕ → ℕ) (j k : ℕ) → j < n → k < n → (j ≡ k → ⊥) → f j + f k ≤ sum n f
 unfolding sum
-sum-two zero f j k l m o = absurd (omega arith)
-sum-two (suc n) f j k l m o =
+sum_two zero f j k l m o = absurd (omega arith)
+sum_two (suc n) f j k l m o =
     same? n j
-    (λ q e. omega (arith, ap f q, sum-le n f k (omega arith)))
+    (λ q e. omega (arith, ap f q, sum_le n f k (omega arith)))
     (λ q e. same? n k
-    (λ q' e'. omega (arith, ap f q', sum-le n f j (omega arith)))
-    (λ q' e'. omega (arith, sum-two n f j k (omega arith) (omega arith) o)))
+    (λ q' e'. omega (arith, ap f q', sum_le n f j (omega arith)))
+    (λ q' e'. omega (arith, sum_two n f j k (omega arith) (omega arith) o)))
 
 -- ---- the numbers 1 to n, each once
-pub down_out : (n b : ℕ) → n < b → occurs b (downFrom n) ≡ 0
+pub down_out : (n b : ℕ) → n < b → occurs b (down_from n) ≡ 0
 down_out zero b l = refl
 down_out (suc n) b l = omega (arith, down_out n b (omega arith), hit_other b (suc n) (λ e. omega arith))
 
-pub down-zero : (n : ℕ) → occurs 0 (downFrom n) ≡ 0
-down-zero zero = refl
-down-zero (suc n) = omega (arith, down-zero n, hit_other 0 (suc n) (λ e. omega arith))
+pub down_zero : (n : ℕ) → occurs 0 (down_from n) ≡ 0
+down_zero zero = refl
+down_zero (suc n) = omega (arith, down_zero n, hit_other 0 (suc n) (λ e. omega arith))
 
-pub down-in : (n b : ℕ) → 1 ≤ b → b ≤ n → occurs b (downFrom n) ≡ 1
-down-in zero b l m = absurd (omega arith)
-down-in (suc n) b l m =
+pub down_in : (n b : ℕ) → 1 ≤ b → b ≤ n → occurs b (down_from n) ≡ 1
+down_in zero b l m = absurd (omega arith)
+down_in (suc n) b l m =
     same? b (suc n)
-    (λ q e. rw q (omega (arith, hit-self (suc n), down_out n (suc n) (omega arith))))
-    (λ q e. omega (arith, hit_other b (suc n) q, down-in n b l (omega arith)))
+    (λ q e. rw q (omega (arith, hit_self (suc n), down_out n (suc n) (omega arith))))
+    (λ q e. omega (arith, hit_other b (suc n) q, down_in n b l (omega arith)))
 
-pub down-once : (n b : ℕ) → occurs b (downFrom n) ≤ 1
-down-once zero b = omega arith
-down-once (suc n) b =
+pub down_once : (n b : ℕ) → occurs b (down_from n) ≤ 1
+down_once zero b = omega arith
+down_once (suc n) b =
     same? b (suc n)
-    (λ q e. rw q (omega (arith, hit-self (suc n), down_out n (suc n) (omega arith))))
-    (λ q e. omega (arith, hit_other b (suc n) q, down-once n b))
+    (λ q e. rw q (omega (arith, hit_self (suc n), down_out n (suc n) (omega arith))))
+    (λ q e. omega (arith, hit_other b (suc n) q, down_once n b))
 
 -- a number that stands there is one of 1 to n
-pub down-range : (n b : ℕ) → 1 ≤ occurs b (downFrom n) → (1 ≤ b) × (b ≤ n)
-down-range zero b h = absurd (omega arith)
-down-range (suc n) b h =
+pub down_range : (n b : ℕ) → 1 ≤ occurs b (down_from n) → (1 ≤ b) × (b ≤ n)
+down_range zero b h = absurd (omega arith)
+down_range (suc n) b h =
     same? b (suc n)
     (λ q e. omega arith)
-    (λ q e. let k = down-range n b (omega (arith, hit_other b (suc n) q)) in omega arith)
+    (λ q e. let k = down_range n b (omega (arith, hit_other b (suc n) q)) in omega arith)
 
 -- ---- a list has as many numbers as are counted in it
-sum-plus : (n : ℕ) (f g : ℕ → ℕ) → sum n (λ b. f b + g b) ≡ sum n f + sum n g
+sum_plus : (n : ℕ) (f g : ℕ → ℕ) → sum n (λ b. f b + g b) ≡ sum n f + sum n g
 unfolding sum
-sum-plus zero f g = refl
-sum-plus (suc n) f g = omega (arith, sum-plus n f g)
+sum_plus zero f g = refl
+sum_plus (suc n) f g = omega (arith, sum_plus n f g)
 
 sum_mono : (n : ℕ) (f g : ℕ → ℕ) → ((k : ℕ) → f k ≤ g k) → sum n f ≤ sum n g
 unfolding sum
@@ -105,27 +105,27 @@ unfolding sum
 sum-hit zero x l = absurd (omega arith)
 sum-hit (suc n) x l =
     same? n x
-    (λ q e. omega (arith, sum-hit-out n x (omega arith), hit-self x, ap (λ (k : ℕ). hit k x) q))
+    (λ q e. omega (arith, sum-hit-out n x (omega arith), hit_self x, ap (λ (k : ℕ). hit k x) q))
     (λ q e. omega (arith, sum-hit n x (omega arith), hit_other n x q))
 
-sum-none : (n : ℕ) → sum n (λ b. zero) ≡ 0
+sum_none : (n : ℕ) → sum n (λ b. zero) ≡ 0
 unfolding sum
-sum-none zero = refl
-sum-none (suc n) = omega (arith, sum-none n)
+sum_none zero = refl
+sum_none (suc n) = omega (arith, sum_none n)
 
 pub sum-occurs : (n : ℕ) (l : List ℕ) → ((b : ℕ) → 1 ≤ occurs b l → b < n) → sum n (λ b. occurs b l) ≡ length l
-sum-occurs n [] h = sum-none n
+sum-occurs n [] h = sum_none n
 sum-occurs n (x ∷ l) h =
-    sum-plus n (λ b. hit b x) (λ b. occurs b l)
-    ∙ omega (arith, sum-hit n x (h x (omega (arith, hit-self x))), sum-occurs n l (λ b o. h b (omega arith)))
+    sum_plus n (λ b. hit b x) (λ b. occurs b l)
+    ∙ omega (arith, sum-hit n x (h x (omega (arith, hit_self x))), sum-occurs n l (λ b o. h b (omega arith)))
 
-length-down : (n : ℕ) → length (downFrom n) ≡ n
-length-down zero = refl
-length-down (suc n) = omega (arith, length-down n)
+length_down : (n : ℕ) → length (down_from n) ≡ n
+length_down zero = refl
+length_down (suc n) = omega (arith, length_down n)
 
 -- no more than 1 to n, each once: no more than n
-pub count_most : (n : ℕ) (l : List ℕ) → ((b : ℕ) → occurs b l ≤ occurs b (downFrom n)) → length l ≤ n
+pub count_most : (n : ℕ) (l : List ℕ) → ((b : ℕ) → occurs b l ≤ occurs b (down_from n)) → length l ≤ n
 count_most n l h =
-    let a = sum-occurs (suc n) l (λ b o. let r = down-range n b (omega (arith, h b)) in omega arith) in
-    let d = sum-occurs (suc n) (downFrom n) (λ b o. let r = down-range n b o in omega arith) in
-    omega (arith, sum_mono (suc n) (λ b. occurs b l) (λ b. occurs b (downFrom n)) h, length-down n)
+    let a = sum-occurs (suc n) l (λ b o. let r = down_range n b (omega (arith, h b)) in omega arith) in
+    let d = sum-occurs (suc n) (down_from n) (λ b o. let r = down_range n b o in omega arith) in
+    omega (arith, sum_mono (suc n) (λ b. occurs b l) (λ b. occurs b (down_from n)) h, length_down n)

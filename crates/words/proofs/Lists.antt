@@ -20,8 +20,8 @@ pub same? {ℓ} : {P : Type ℓ} (a b : ℕ) → (a ≡ b → eqb a b ≡ true �
 same? a b f g = split (eqb a b) (λ e. f (eqb-true a b e) e) (λ e. g (eqb-false a b e) e)
 
 -- one of two numbers is at most the other
-pub le-or-lt : (m n : ℕ) → (m ≤ n) ⊎ (n < m)
-le-or-lt m n = split (leb m n) (λ e. inl (leb-true m n e)) (λ e. inr (leb-false m n e))
+pub le_or_lt : (m n : ℕ) → (m ≤ n) ⊎ (n < m)
+le_or_lt m n = split (leb m n) (λ e. inl (leb-true m n e)) (λ e. inr (leb-false m n e))
 
 -- what holds of both branches holds of the choice
 pub both {ℓ κ} : {A : Type ℓ} (P : A → Type κ) (b : Bool) (x y : A) → P x → P y → P (cond b x y)
@@ -46,22 +46,22 @@ same_test false b f g = split b (λ e. g e ∙ sym e) (λ e. sym e)
 
 -- ---- every number below n passes the test
 module _ (p : ℕ → Bool) where
-  pub every-at : (n : ℕ) → every n p ≡ true → (k : ℕ) → k < n → p k ≡ true
+  pub every_at : (n : ℕ) → every n p ≡ true → (k : ℕ) → k < n → p k ≡ true
   unfolding every
-  every-at zero e k l = absurd (omega arith)
-  every-at (suc n) e k l =
+  every_at zero e k l = absurd (omega arith)
+  every_at (suc n) e k l =
       let h = and-true (every n p) (p n) e in
-      same? k n (λ q t. rw q h.1) (λ q t. every-at n h.0 k (omega arith))
+      same? k n (λ q t. rw q h.1) (λ q t. every_at n h.0 k (omega arith))
 
-  pub every-all : (n : ℕ) → ((k : ℕ) → k < n → p k ≡ true) → every n p ≡ true
+  pub every_all : (n : ℕ) → ((k : ℕ) → k < n → p k ≡ true) → every n p ≡ true
   unfolding every
-  every-all zero f = refl
-  every-all (suc n) f = and-join (every n p) (p n) (every-all n (λ k l. f k (omega arith))) (f n (omega arith))
+  every_all zero f = refl
+  every_all (suc n) f = and-join (every n p) (p n) (every_all n (λ k l. f k (omega arith))) (f n (omega arith))
 
   -- one number that fails
   pub every-not : (n k : ℕ) → k < n → p k ≡ false → every n p ≡ false
   every-not n k l e =
-      split (every n p) (λ t. absurd (false≢true (sym e ∙ every-at n t k l))) (λ t. t)
+      split (every n p) (λ t. absurd (false≢true (sym e ∙ every_at n t k l))) (λ t. t)
 
 -- ---- each number of a list passes the test
 module _ (p : ℕ → Bool) where
@@ -73,10 +73,10 @@ module _ (p : ℕ → Bool) where
   unfolding all
   all_cons x l e f = and-join (p x) (all p l) e f
 
-  pub all-at : (l : List ℕ) → all p l ≡ true → (k : ℕ) → k < length l → p (get_or l k 0) ≡ true
-  all-at [] e k h = absurd (omega arith)
-  all-at (x ∷ l) e zero h = (all_head x l e).0
-  all-at (x ∷ l) e (suc k) h = all-at l (all_head x l e).1 k (omega arith)
+  pub all_at : (l : List ℕ) → all p l ≡ true → (k : ℕ) → k < length l → p (get_or l k 0) ≡ true
+  all_at [] e k h = absurd (omega arith)
+  all_at (x ∷ l) e zero h = (all_head x l e).0
+  all_at (x ∷ l) e (suc k) h = all_at l (all_head x l e).1 k (omega arith)
 
   pub at_all : (l : List ℕ) → ((k : ℕ) → k < length l → p (get_or l k 0) ≡ true) → all p l ≡ true
   unfolding all
@@ -118,8 +118,8 @@ module _ {ℓ} {B : Type ℓ} (f : ℕ → B) (k : ℕ) (v : B) where
 
 -- ---- what an answer tells of the test that chose it
 module _ {ℓ} {A : Type ℓ} (b : Bool) (x y r : A) (e : r ≡ cond b x y) where
-  pub told-no : (x ≡ y → ⊥) → r ≡ y → b ≡ false
-  told-no n f = split b (λ t. absurd (n (sym (rw t at e) ∙ f))) (λ t. t)
+  pub told_no : (x ≡ y → ⊥) → r ≡ y → b ≡ false
+  told_no n f = split b (λ t. absurd (n (sym (rw t at e) ∙ f))) (λ t. t)
 
-  pub told-yes : (z : A) → (z ≡ y → ⊥) → r ≡ z → (b ≡ true) × (x ≡ z)
-  told-yes z n f = split b (λ t. (t, sym (rw t at e) ∙ f)) (λ t. absurd (n (sym f ∙ (rw t at e))))
+  pub told_yes : (z : A) → (z ≡ y → ⊥) → r ≡ z → (b ≡ true) × (x ≡ z)
+  told_yes z n f = split b (λ t. (t, sym (rw t at e) ∙ f)) (λ t. absurd (n (sym f ∙ (rw t at e))))

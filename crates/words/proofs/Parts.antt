@@ -10,7 +10,7 @@ use lib.ListN.{length, get_or, take, drop, set, length-append, length-take, leng
 use lib.Seq.{drop-append-add, take_all, take-take, take-nil, get_or-take, get_or-drop, length-take-le, take_at, drop_at, drop-drop, take-append-le, drop-append-le}
 use borrow.Rule.Slice.PartMut.{put_mid, Post-is, mid_len, set_mid_at, put_same}
 use Rattle.words.specs.Words.{part, splice}
-use Rattle.words.proofs.Lists.{le-or-lt}
+use Rattle.words.proofs.Lists.{le_or_lt}
 
 -- what comes back from a call that was lent the part, as the definitions say it
 pub back : (a e : ℕ) (l : List ℕ) {p r : List ℕ} → a ≤ e → p ≡ r → put_mid a (e - a) l p ≡ splice l a e r
@@ -37,30 +37,30 @@ module _ (l : List ℕ) (a e : ℕ) (h : a ≤ e) (g : e ≤ length l) where
 
   -- ---- after a splice, where what is put in is as long as what was there
   module _ (p : List ℕ) (z : length p ≡ e - a) where
-    length-head : length (take a l) ≡ a
-    length-head = length-take-le a l (le_trans h g)
+    length_head : length (take a l) ≡ a
+    length_head = length-take-le a l (le_trans h g)
 
     pub take-splice : take a (splice l a e p) ≡ take a l
-    take-splice = take_at (take a l) (p ++ drop e l) a length-head
+    take-splice = take_at (take a l) (p ++ drop e l) a length_head
 
     pub drop-splice : drop e (splice l a e p) ≡ drop e l
     drop-splice =
         rw (← append_assoc (take a l) p (drop e l))
-        (drop_at (take a l ++ p) (drop e l) e (rw (length-append, length-head, z) (omega arith)))
+        (drop_at (take a l ++ p) (drop e l) e (rw (length-append, length_head, z) (omega arith)))
 
     pub length-splice : length (splice l a e p) ≡ length l
-    length-splice = simp (length-append, length-head, z, length-drop) (omega arith)
+    length-splice = simp (length-append, length_head, z, length-drop) (omega arith)
 
     pub part-splice : part (splice l a e p) a e ≡ p
-    part-splice = rw (drop_at (take a l) (p ++ drop e l) a length-head) (take_at p (drop e l) (e - a) z)
+    part-splice = rw (drop_at (take a l) (p ++ drop e l) a length_head) (take_at p (drop e l) (e - a) z)
 
     pub splice-splice : (r : List ℕ) → splice (splice l a e p) a e r ≡ splice l a e r
     splice-splice r = rw (take-splice, drop-splice)
 
-    pub part-before : (b f : ℕ) → b ≤ f → f ≤ a → part (splice l a e p) b f ≡ part l b f
-    part-before b f v w =
-        front (take a l) (p ++ drop e l) b f v (rw length-head w)
-        ∙ sym (front (take a l) (drop a l) b f v (rw length-head w))
+    pub part_before : (b f : ℕ) → b ≤ f → f ≤ a → part (splice l a e p) b f ≡ part l b f
+    part_before b f v w =
+        front (take a l) (p ++ drop e l) b f v (rw length_head w)
+        ∙ sym (front (take a l) (drop a l) b f v (rw length_head w))
         ∙ ap (λ (k : List ℕ). part k b f) (take-append-drop a l)
 
     pub part-after : (b f : ℕ) → e ≤ b → part (splice l a e p) b f ≡ part l b f
@@ -81,8 +81,8 @@ laid-suc (suc n) (y ∷ r) (x ∷ d) h g = ap (λ (t : List ℕ). y ∷ t) (laid
 pub laid_more : (n : ℕ) (r d : List ℕ) → n < length d → n < length r → set (take n r ++ drop n d) n (get_or r n 0) ≡ take (n + 1) r ++ drop (n + 1) d
 laid_more n r d h g = rw (add-one n) (laid-suc n r d h g)
 
-pub laid-all : (n : ℕ) (r d : List ℕ) → length d ≤ n → length r ≤ n → take n r ++ drop n d ≡ r
-laid-all n r d h g = rw (drop_of_length-le d h, take_all n r g, append-nil)
+pub laid_all : (n : ℕ) (r d : List ℕ) → length d ≤ n → length r ≤ n → take n r ++ drop n d ≡ r
+laid_all n r d h g = rw (drop_of_length-le d h, take_all n r g, append-nil)
 
 pub length-laid : (n : ℕ) (r d : List ℕ) → n ≤ length d → n ≤ length r → length (take n r ++ drop n d) ≡ length d
 length-laid n r d h g = simp (length-append, length-take-le n r g, length-drop) (omega arith)
@@ -102,7 +102,7 @@ take-least m n l =
     ⊎_elim
     (λ h. let e : min m n ≡ m = omega arith in take-take m n l h ∙ ap (λ (k : ℕ). take k l) (sym e))
     (λ h. let e : min m n ≡ n = omega arith in take_all m (take n l) (rw length-take (omega arith)) ∙ ap (λ (k : ℕ). take k l) (sym e))
-    (le-or-lt m n)
+    (le_or_lt m n)
 
 pub drop-take : (i n : ℕ) (l : List ℕ) → drop i (take n l) ≡ take (n - i) (drop i l)
 drop-take zero n l = let e : n ≡ n - 0 = omega arith in ap (λ (k : ℕ). take k l) e
@@ -118,7 +118,7 @@ take-join (suc n) (x ∷ u) v =
     ap (λ (l : List ℕ). x ∷ l) (take-join n u v ∙ ap (λ (k : ℕ). take n u ++ take k v) e)
 
 -- what is left behind the first n, however many there are
-pub drop-front : (n : ℕ) (l : List ℕ) → drop (length (take n l)) l ≡ drop n l
-drop-front zero l = refl
-drop-front (suc n) [] = refl
-drop-front (suc n) (x ∷ l) = drop-front n l
+pub drop_front : (n : ℕ) (l : List ℕ) → drop (length (take n l)) l ≡ drop n l
+drop_front zero l = refl
+drop_front (suc n) [] = refl
+drop_front (suc n) (x ∷ l) = drop_front n l

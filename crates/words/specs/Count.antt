@@ -16,6 +16,6 @@ sum zero f = zero
 sum (suc n) f = sum n f + f n
 
 -- the numbers n, .. 2, 1
-abbrev pub downFrom : ℕ → List ℕ
-downFrom zero = []
-downFrom (suc n) = suc n ∷ downFrom n
+abbrev pub down_from : ℕ → List ℕ
+down_from zero = []
+down_from (suc n) = suc n ∷ down_from n

@@ -4,7 +4,7 @@ use Prim.Native.Nat.{ℕ, ◌<◌}
 use native.Mathlib.Omega.{arith}
 use borrow.Fn.Kinds.{In}
 use borrow.Fn.PlainCycle.{Measures, is, falls, and}
-use Rattle.blocks.proofs.Steps.{after_none, follow-fits, follow-step, follow-after}
+use Rattle.blocks.proofs.Steps.{after_none, follow_fits, follow_step, follow_after}
 use Rattle.blocks.proofs.last_on.Reads as own
 use Rattle.blocks.proofs.last_on.Kinds as kinds
 use Rattle.blocks.proofs.+last_on.Lts-last_on as lts
@@ -25,25 +25,25 @@ module _ (t : ℕ) where
   returns c = λ s f. sym (after_none _ _ _ _ (omega arith))
 
   mul_next : lts.Need-overflow-mul-next calls Pre own.Post
-  mul_next c = let p = c.before.requires.1 in omega (arith, follow-fits _ _ _ _ _ _ p.1)
+  mul_next c = let p = c.before.requires.1 in omega (arith, follow_fits _ _ _ _ _ _ p.1)
 
   add-next : lts.Need-overflow-add-next calls Pre own.Post
-  add-next c = let p = c.before.requires.1 in omega (arith, follow-fits _ _ _ _ _ _ p.1)
+  add-next c = let p = c.before.requires.1 in omega (arith, follow_fits _ _ _ _ _ _ p.1)
 
   mul-next-2 : lts.Need-overflow-mul-next-2 calls Pre own.Post
-  mul-next-2 c = let p = c.before.requires.1 in omega (arith, follow-fits _ _ _ _ _ _ p.1)
+  mul-next-2 c = let p = c.before.requires.1 in omega (arith, follow_fits _ _ _ _ _ _ p.1)
 
   index-1-next : lts.Need-bounds-1-next calls Pre own.Post
-  index-1-next c = let p = c.before.requires.1 in omega (arith, follow-fits _ _ _ _ _ _ p.1)
+  index-1-next c = let p = c.before.requires.1 in omega (arith, follow_fits _ _ _ _ _ _ p.1)
 
   sub-last-on : lts.Need-overflow-sub-last-on calls Pre own.Post
   sub-last-on c = omega (arith, c.before.before.requires.1.1.some)
 
   last-on-requires : lts.Need-last-on-requires calls Pre own.Post
-  last-on-requires c κs = let x = c.before.before in let p = x.requires.1 in (omega (arith, p.1.some), (p.0, follow-step _ _ _ _ _ _ p.1 c.before.if1.false))
+  last-on-requires c κs = let x = c.before.before in let p = x.requires.1 in (omega (arith, p.1.some), (p.0, follow_step _ _ _ _ _ _ p.1 c.before.if1.false))
 
   returns-2 : lts.Need-returns-2 calls Pre own.Post
-  returns-2 c = λ s f. c.last-on.ensures s (follow-step _ _ _ _ _ _ f c.before.before.if1.false) ∙ sym (follow-after _ _ _ _ _ _ f c.before.before.if1.false)
+  returns-2 c = λ s f. c.last-on.ensures s (follow_step _ _ _ _ _ _ f c.before.before.if1.false) ∙ sym (follow_after _ _ _ _ _ _ f c.before.before.if1.false)
 
 pub +last-on-spec : {M : Type 1} → statement M
 +last-on-spec =

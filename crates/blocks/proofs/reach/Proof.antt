@@ -5,7 +5,7 @@ use native.Mathlib.Omega.{arith}
 use lib.ListN.{get_or}
 use Rattle.blocks.specs.Chain.{list}
 use Rattle.blocks.specs.Asked.{Reaches}
-use Rattle.blocks.proofs.Steps.{is_block, nth-none, nth_last, nth-step, within-list}
+use Rattle.blocks.proofs.Steps.{is_block_lem, nth_none, nth_last, nth_step, within-list}
 use Rattle.blocks.proofs.reach.Statement.{statement}
 use Rattle.blocks.proofs.reach.Tie as tie
 
@@ -22,13 +22,13 @@ returns : tie.Need-returns invariant-loop decreases-loop
 returns c =
     let x = c.before.before.before.before.args in
     let l = c.before.before.loop in
-    sym (nth-none x.s x.node.now l.rest l.at c.if1.true) ∙ l.invariant.1
+    sym (nth_none x.s x.node.now l.rest l.at c.if1.true) ∙ l.invariant.1
 
 link-of-requires : tie.Need-link-of-requires invariant-loop decreases-loop
 link-of-requires c κs =
     let x = c.before.before.before.before.args in
     let l = c.before.before.loop in
-    is_block x.s x.node.now l.at l.invariant.0.stretch (within-list x.s x.node.now x.s.m l.rest l.at l.invariant.0.some c.if1.false l.invariant.0.within).0
+    is_block_lem x.s x.node.now l.at l.invariant.0.stretch (within-list x.s x.node.now x.s.m l.rest l.at l.invariant.0.some c.if1.false l.invariant.0.within).0
 
 sub-rest : tie.Need-overflow-sub-rest invariant-loop decreases-loop
 sub-rest c = omega arith
@@ -41,7 +41,7 @@ loop-again c =
     let x = c.before.before.before.before.before.args in
     let l = c.before.before.before.loop in
     let w = (within-list x.s x.node.now x.s.m l.rest l.at l.invariant.0.some c.before.if1.false l.invariant.0.within).1 in
-    let n = nth-step x.s x.node.now l.rest l.at (omega arith) c.before.if1.false in
+    let n = nth_step x.s x.node.now l.rest l.at (omega arith) c.before.if1.false in
     (record { stretch = l.invariant.0.stretch; some = omega arith; within = rw c.link-of.ensures w }, rw c.link-of.ensures (sym n ∙ l.invariant.1))
 
 returns-2 : tie.Need-returns-2 invariant-loop decreases-loop

@@ -2,19 +2,19 @@
 use mathlib.Core.Path.{◌∙◌}
 use native.Mathlib.Omega.{arith}
 use lib.ListN.{length-set}
-use Rattle.blocks.proofs.Steps.{is_block, head-fits}
-use Rattle.blocks.proofs.Taking.{front-within, last_block, taken_is, first-is, short-is, kept-is}
+use Rattle.blocks.proofs.Steps.{is_block_lem, head_fits}
+use Rattle.blocks.proofs.Taking.{front_within, last_block, taken_is, first_is, short_is, kept_is}
 use borrow.Author.Rules.{rules}
 use Rattle.blocks.proofs.take.Statement.{statement}
 use Rattle.blocks.proofs.take.Tie as tie
 
 slice-read-first : tie.Need-slice-read-first
-slice-read-first c = let p = c.before.before.requires in omega (arith, head-fits c.before.before.args.s)
+slice-read-first c = let p = c.before.before.requires in omega (arith, head_fits c.before.before.args.s)
 
 reach-requires : tie.Need-reach-requires
 reach-requires c κs =
     let x = c.before.before.before in
-    record { stretch = x.requires.stretch; some = x.requires.some; within = front-within x.args.s x.args.node.now x.args.n x.requires }
+    record { stretch = x.requires.stretch; some = x.requires.some; within = front_within x.args.s x.args.node.now x.args.n x.requires }
 
 same_length : tie.Need-same-length
 same_length c = search rules
@@ -23,20 +23,20 @@ returns : tie.Need-returns
 returns c =
     let x = c.before.before.before.before.before in
     let r = c.before.reach.ensures in
-    (short-is x.args.s x.args.node.now x.args.n x.requires _ r c.if1.true, kept-is x.args.s x.args.node.now x.args.n x.requires _ r c.if1.true)
+    (short_is x.args.s x.args.node.now x.args.n x.requires _ r c.if1.true, kept_is x.args.s x.args.node.now x.args.n x.requires _ r c.if1.true)
 
 link-of-requires : tie.Need-link-of-requires
 link-of-requires c κs =
     let x = c.before.before.before.before.before.before in
-    is_block _ _ _ x.requires.stretch (last_block x.args.s x.args.node.now x.args.n x.requires _ c.before.before.reach.ensures c.before.if1.false)
+    is_block_lem _ _ _ x.requires.stretch (last_block x.args.s x.args.node.now x.args.n x.requires _ c.before.before.reach.ensures c.before.if1.false)
 
 slice-write-node : tie.Need-slice-write-node
-slice-write-node c = let x = c.before.before.before.before.before.before.before in omega (arith, head-fits x.args.s)
+slice-write-node c = let x = c.before.before.before.before.before.before.before in omega (arith, head_fits x.args.s)
 
 set-link-requires : tie.Need-set-link-requires
 set-link-requires c κs =
     let x = c.before.before.before.before.before.before.before.before in
-    is_block _ _ _ (record { range = x.requires.stretch.range; long = simp length-set x.requires.stretch.long })
+    is_block_lem _ _ _ (record { range = x.requires.stretch.range; long = simp length-set x.requires.stretch.long })
     (last_block x.args.s x.args.node.now x.args.n x.requires _ c.before.before.before.before.reach.ensures c.before.before.before.if1.false)
 
 same-length-2 : tie.Need-same-length-2
@@ -47,7 +47,7 @@ returns-2 c =
     let x = c.before.before.before.before.before.before.before.before.before.before.before in
     let r = c.before.before.before.before.before.before.before.reach.ensures in
     let k = c.before.before.before.before.before.before.if1.false in (
-      first-is x.args.s x.args.node.now x.args.n x.requires _ r k,
+      first_is x.args.s x.args.node.now x.args.n x.requires _ r k,
       taken_is x.args.s x.args.node.now x.args.n x.requires _ r k _ _ c.before.before.before.before.link-of.ensures c.before.before.set_link.ensures,
     )
 

@@ -3,16 +3,16 @@ use mathlib.Core.Path.{◌≡◌, refl, ◌∙◌}
 use native.Mathlib.Omega.{arith}
 use lib.ListN.{length}
 use borrow.Author.Rules.{rules}
-use Rattle.stages_keep.specs.Steps.{carriedAll}
+use Rattle.stages_keep.specs.Steps.{carried_all}
 use Rattle.carrying.specs.Asked.{Carries}
-use Rattle.carrying.proofs.Asks.{all_one, all-next}
+use Rattle.carrying.proofs.Asks.{all_one, all_next}
 use Rattle.carrying.proofs.Ways.{all_none, all-stop, all_go}
 use Rattle.carrying.proofs.carry_all.Statement.{statement}
 use Rattle.carrying.proofs.carry_all.Tie as tie
 
 abbrev invariant-loop : tie.invariant-loop
 invariant-loop memory₀ s j i k letters₀ a₀ memory letters a =
-    (length memory ≡ length memory₀) × (Carries s memory j i letters a) × (carriedAll s j letters memory i a ≡ carriedAll s j letters₀ memory₀ i a₀)
+    (length memory ≡ length memory₀) × (Carries s memory j i letters a) × (carried_all s j letters memory i a ≡ carried_all s j letters₀ memory₀ i a₀)
 
 abbrev decreases-loop : tie.decreases-loop
 decreases-loop memory₀ s j i k letters₀ a₀ memory letters a = letters
@@ -48,7 +48,7 @@ loop-again c =
     let e = c.before.before.before.before.carry.ensures in
     let d = c.enum_told.given.1 in (
       c.before.before.before.before.carry.auto.0 ∙ l.invariant.0,
-      all-next x.s l.memory x.j x.i l.letters l.a l.invariant.1 (omega arith) e d,
+      all_next x.s l.memory x.j x.i l.letters l.a l.invariant.1 (omega arith) e d,
       all_go x.s x.j l.letters l.memory x.i l.a (omega arith) e d refl ∙ l.invariant.2,
     )
 

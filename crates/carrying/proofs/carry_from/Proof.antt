@@ -4,10 +4,10 @@ use Prim.Native.Nat.{◌-◌}
 use native.Mathlib.Omega.{arith}
 use lib.ListN.{length}
 use borrow.Author.Rules.{rules}
-use Rattle.stages_keep.specs.Steps.{carriedFrom}
+use Rattle.stages_keep.specs.Steps.{carried_from}
 use Rattle.carrying.specs.Asked.{CarriesFrom}
 use Rattle.carrying.proofs.Asks.{from_all, from_next}
-use Rattle.carrying.proofs.Ways.{nodes-none, nodes-stop, nodes-go}
+use Rattle.carrying.proofs.Ways.{nodes_none, nodes-stop, nodes_go}
 use Rattle.carrying.proofs.carry_from.Statement.{statement}
 use Rattle.carrying.proofs.carry_from.Tie as tie
 
@@ -15,7 +15,7 @@ abbrev invariant-loop : tie.invariant-loop
 invariant-loop memory₀ s j i other₀ a₀ memory other a =
     (length memory ≡ length memory₀)
     × (CarriesFrom s memory j other a)
-    × (carriedFrom s j (6 - other) memory other a ≡ carriedFrom s j (6 - other₀) memory₀ other₀ a₀)
+    × (carried_from s j (6 - other) memory other a ≡ carried_from s j (6 - other₀) memory₀ other₀ a₀)
 
 abbrev decreases-loop : tie.decreases-loop
 decreases-loop memory₀ s j i other₀ a₀ memory other a = 6 - other
@@ -57,7 +57,7 @@ loop-again c =
     let d = c.enum_told.given.1 in (
       c.before.before.before.before.carry-all.auto.0 ∙ l.invariant.0,
       from_next x.s l.memory x.j l.other l.a l.invariant.1 (omega arith) k e d,
-      nodes-go x.s x.j l.memory l.other l.a (omega arith) k e d refl ∙ l.invariant.2,
+      nodes_go x.s x.j l.memory l.other l.a (omega arith) k e d refl ∙ l.invariant.2,
     )
 
 same-length-2 : tie.Need-same-length-2 invariant-loop decreases-loop
@@ -67,7 +67,7 @@ returns-2 : tie.Need-returns-2 invariant-loop decreases-loop
 returns-2 c =
     let x = c.before.before.before.args in
     let l = c.before.loop in
-    nodes-none x.s x.j l.memory l.other l.a (omega arith) ∙ l.invariant.2
+    nodes_none x.s x.j l.memory l.other l.a (omega arith) ∙ l.invariant.2
 
 pub carry-from-spec : {M : Type 1} → statement M
 carry-from-spec =

@@ -2,16 +2,16 @@
 use mathlib.Core.Path.{◌≡◌, refl, ◌∙◌}
 use native.Mathlib.Omega.{arith}
 use lib.ListN.{length}
-use Rattle.stages_keep.specs.Steps.{collectedAll}
+use Rattle.stages_keep.specs.Steps.{collected_all}
 use Rattle.carrying.specs.Asked.{Collects}
-use Rattle.carrying.proofs.Asks.{back_one, back-next}
-use Rattle.carrying.proofs.Ways.{back_none, back-go}
+use Rattle.carrying.proofs.Asks.{back_one, back_next}
+use Rattle.carrying.proofs.Ways.{back_none, back_go}
 use Rattle.carrying.proofs.collect_all.Statement.{statement}
 use Rattle.carrying.proofs.collect_all.Tie as tie
 
 abbrev invariant-loop : tie.invariant-loop
 invariant-loop memory₀ s j i k items₀ a₀ memory items a =
-    (length memory ≡ length memory₀) × (Collects s memory j i items a) × (collectedAll s j items memory i a ≡ collectedAll s j items₀ memory₀ i a₀)
+    (length memory ≡ length memory₀) × (Collects s memory j i items a) × (collected_all s j items memory i a ≡ collected_all s j items₀ memory₀ i a₀)
 
 abbrev decreases-loop : tie.decreases-loop
 decreases-loop memory₀ s j i k items₀ a₀ memory items a = items
@@ -37,8 +37,8 @@ loop-again c =
     let l = c.before.before.before.before.before.loop in
     let e = c.before.before.collect.ensures in (
       c.before.before.collect.auto.0 ∙ l.invariant.0,
-      back-next x.s l.memory x.j x.i l.items l.a l.invariant.1 (omega arith) e,
-      back-go x.s x.j l.memory x.i l.a l.items (omega arith) e refl ∙ l.invariant.2,
+      back_next x.s l.memory x.j x.i l.items l.a l.invariant.1 (omega arith) e,
+      back_go x.s x.j l.memory x.i l.a l.items (omega arith) e refl ∙ l.invariant.2,
     )
 
 same_length : tie.Need-same-length invariant-loop decreases-loop

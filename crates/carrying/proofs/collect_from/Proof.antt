@@ -3,10 +3,10 @@ use mathlib.Core.Path.{◌≡◌, refl, ◌∙◌}
 use Prim.Native.Nat.{◌-◌}
 use native.Mathlib.Omega.{arith}
 use lib.ListN.{length}
-use Rattle.stages_keep.specs.Steps.{collectedFrom}
+use Rattle.stages_keep.specs.Steps.{collected_from}
 use Rattle.carrying.specs.Asked.{CollectsFrom}
-use Rattle.carrying.proofs.Asks.{backs-all, backs-next}
-use Rattle.carrying.proofs.Ways.{backs-none, backs-go}
+use Rattle.carrying.proofs.Asks.{backs_all, backs_next}
+use Rattle.carrying.proofs.Ways.{backs_none, backs_go}
 use Rattle.carrying.proofs.collect_from.Statement.{statement}
 use Rattle.carrying.proofs.collect_from.Tie as tie
 
@@ -14,7 +14,7 @@ abbrev invariant-loop : tie.invariant-loop
 invariant-loop memory₀ s j i other₀ a₀ memory other a =
     (length memory ≡ length memory₀)
     × (CollectsFrom s memory j other a)
-    × (collectedFrom s j (6 - other) memory other a ≡ collectedFrom s j (6 - other₀) memory₀ other₀ a₀)
+    × (collected_from s j (6 - other) memory other a ≡ collected_from s j (6 - other₀) memory₀ other₀ a₀)
 
 abbrev decreases-loop : tie.decreases-loop
 decreases-loop memory₀ s j i other₀ a₀ memory other a = 6 - other
@@ -29,7 +29,7 @@ collect-all-requires : tie.Need-collect-all-requires invariant-loop decreases-lo
 collect-all-requires c κs =
     let x = c.before.before.before.before.before.before.args in
     let l = c.before.before.before.before.loop in
-    backs-all x.s l.memory x.j l.other l.a l.invariant.1 (omega arith) c.before.acks-for.ensures
+    backs_all x.s l.memory x.j l.other l.a l.invariant.1 (omega arith) c.before.acks-for.ensures
 
 add-other : tie.Need-overflow-add-other invariant-loop decreases-loop
 add-other c = omega arith
@@ -44,8 +44,8 @@ loop-again c =
     let k = c.before.before.before.before.acks-for.ensures in
     let e = c.before.before.collect-all.ensures in (
       c.before.before.collect-all.auto.0 ∙ l.invariant.0,
-      backs-next x.s l.memory x.j l.other l.a l.invariant.1 (omega arith) k e,
-      backs-go x.s x.j l.memory l.other l.a (omega arith) k e refl ∙ l.invariant.2,
+      backs_next x.s l.memory x.j l.other l.a l.invariant.1 (omega arith) k e,
+      backs_go x.s x.j l.memory l.other l.a (omega arith) k e refl ∙ l.invariant.2,
     )
 
 same_length : tie.Need-same-length invariant-loop decreases-loop
@@ -55,7 +55,7 @@ returns : tie.Need-returns invariant-loop decreases-loop
 returns c =
     let x = c.before.before.before.args in
     let l = c.before.loop in
-    backs-none x.s x.j l.memory l.other l.a (omega arith) ∙ l.invariant.2
+    backs_none x.s x.j l.memory l.other l.a (omega arith) ∙ l.invariant.2
 
 pub collect-from-spec : {M : Type 1} → statement M
 collect-from-spec = tie.close (tie.spec invariant-loop decreases-loop loop-holds acks-for-requires collect-all-requires add-other loop-less loop-again same_length returns)

@@ -1,5 +1,5 @@
 -- `copies::is_same` meets its contract. Assumes nothing.
-use Rattle.copies.proofs.Copied.{differ-at, agree-all}
+use Rattle.copies.proofs.Copied.{differ_at, agree_all}
 use borrow.Author.Count.{below_more}
 use lib.ListN.{length, get_or}
 use native.Mathlib.Omega.{arith}
@@ -31,7 +31,7 @@ shared-slice-read-if1-2 : tie.Need-shared-slice-read-if1-2 invariant-loop decrea
 shared-slice-read-if1-2 c = search rules
 
 returns : tie.Need-returns invariant-loop decreases-loop
-returns c = differ-at c.before.before.before.before.before.args.a.now c.before.before.before.before.before.args.b.now c.before.before.before.before.loop.i c.if1.true
+returns c = differ_at c.before.before.before.before.before.args.a.now c.before.before.before.before.before.args.b.now c.before.before.before.before.loop.i c.if1.true
 
 add-i : tie.Need-overflow-add-i invariant-loop decreases-loop
 add-i c = search rules
@@ -43,7 +43,7 @@ loop-again : tie.Need-loop-preserved invariant-loop decreases-loop
 loop-again c = (omega arith, below_more _ _ c.before.before.before.before.loop.invariant.1 c.if1.false)
 
 returns-2 : tie.Need-returns-2 invariant-loop decreases-loop
-returns-2 c = let e : c.before.loop.i ≡ length c.before.before.args.a.now = omega arith in agree-all c.before.before.args.a.now c.before.before.args.b.now c.before.before.requires (λ k h. c.before.loop.invariant.1 k (omega arith))
+returns-2 c = let e : c.before.loop.i ≡ length c.before.before.args.a.now = omega arith in agree_all c.before.before.args.a.now c.before.before.args.b.now c.before.before.requires (λ k h. c.before.loop.invariant.1 k (omega arith))
 
 pub is-same-spec : {M : Type 1} → statement M
 is-same-spec =

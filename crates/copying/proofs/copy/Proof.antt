@@ -3,7 +3,7 @@ use mathlib.Core.Path.{◌≡◌, refl, ◌∙◌}
 use Prim.Native.Nat.{◌≤◌}
 use native.Mathlib.Omega.{arith}
 use lib.ListN.{length}
-use Rattle.copying.proofs.Moving.{UnderWay, way-starts, way_block, way-goes, way-ends}
+use Rattle.copying.proofs.Moving.{UnderWay, way_starts, way_block, way_goes, way-ends}
 use Rattle.copying.proofs.copy.Statement.{statement}
 use Rattle.copying.proofs.copy.Tie as tie
 
@@ -17,7 +17,7 @@ needs-of-requires : tie.Need-needs-of-requires invariant-loop decreases-loop
 needs-of-requires c κs = let x = c.before in (x.requires.sized.range, omega (arith, x.requires.from.most))
 
 loop-holds : tie.Need-loop-init invariant-loop decreases-loop
-loop-holds c = let x = c.before.before in (refl, way-starts x.args.s x.args.memory.now x.args.n x.args.i x.args.b x.args.j x.args.c x.requires _ c.needs-of.ensures)
+loop-holds c = let x = c.before.before in (refl, way_starts x.args.s x.args.memory.now x.args.n x.args.i x.args.b x.args.j x.args.c x.requires _ c.needs-of.ensures)
 
 link-in-requires : tie.Need-link-in-requires invariant-loop decreases-loop
 link-in-requires c κs =
@@ -52,7 +52,7 @@ loop-again c =
     let x = c.before.before.before.before.before.before.before.before.before.before.before.before in
     let l = c.before.before.before.before.before.before.before.before.before.loop in
     let k = c.before.before.copy-block in
-    (k.auto.0 ∙ l.invariant.0, way-goes x.args.s x.args.memory.now x.args.n x.args.i x.args.b x.args.j x.args.c x.requires l.memory l.owed l.left l.x l.y l.invariant.1 some _ _ _ _ k.ensures.0 c.before.before.before.before.before.before.link-in.ensures c.before.before.before.before.link-in2.ensures k.ensures.1)
+    (k.auto.0 ∙ l.invariant.0, way_goes x.args.s x.args.memory.now x.args.n x.args.i x.args.b x.args.j x.args.c x.requires l.memory l.owed l.left l.x l.y l.invariant.1 some _ _ _ _ k.ensures.0 c.before.before.before.before.before.before.link_in_lem.ensures c.before.before.before.before.link-in2.ensures k.ensures.1)
 
 same_length : tie.Need-same-length invariant-loop decreases-loop
 same_length c = c.before.loop.invariant.0

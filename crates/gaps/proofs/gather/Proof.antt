@@ -1,6 +1,6 @@
 -- `gaps::gather` meets its contract: after i turns the row holds the live ones of the first i items. Assumes nothing.
 use borrow.Author.Rules.{rules}
-use Rattle.gaps.proofs.Turns.{row-none, gather-some, gather-zero}
+use Rattle.gaps.proofs.Turns.{row_none, gather_some, gather_zero}
 use Rattle.gaps.specs.Row.{Row}
 use Rattle.queues.specs.Items.{live}
 use Rattle.queues.specs.Queue.{run, items}
@@ -19,14 +19,14 @@ decreases-loop node k q row₀ items n₀ i₀ row n i = items - i
 
 loop-holds : tie.Need-loop-init invariant-loop decreases-loop
 unfolding run
-loop-holds c = (omega arith, omega arith, row-none c.before.before.requires.1)
+loop-holds c = (omega arith, omega arith, row_none c.before.before.requires.1)
 
 loop-again : tie.Need-loop-preserved invariant-loop decreases-loop
 loop-again c =
     let x = c.before.before.before.before.before.before.args in
     let o = c.before.before.before.loop in
     let p = c.before.item.ensures in
-    ⊎_elim (λ w. (omega arith, omega arith, rw (w.1, w.2) (gather-some x.k x.node.now x.q o.i o.invariant.2 p w.0.taken (omega arith)))) (λ w. (omega arith, omega arith, rw (w.1, w.2) (gather-zero x.k x.node.now x.q o.i o.invariant.2 p w.0.left))) c.if1.branch
+    ⊎_elim (λ w. (omega arith, omega arith, rw (w.1, w.2) (gather_some x.k x.node.now x.q o.i o.invariant.2 p w.0.taken (omega arith)))) (λ w. (omega arith, omega arith, rw (w.1, w.2) (gather_zero x.k x.node.now x.q o.i o.invariant.2 p w.0.left))) c.if1.branch
 
 returns : tie.Need-returns invariant-loop decreases-loop
 returns c =

@@ -1,12 +1,12 @@
 -- `gaps::make_room` meets its contract, by its two tests. Assumes nothing.
 use mathlib.Core.Path.{◌∙◌}
-use Rattle.gaps.proofs.Turns.{roomy-short, roomy-whole, roomy-closed}
+use Rattle.gaps.proofs.Turns.{roomy_short, roomy-whole, roomy-closed}
 use borrow.Author.Rules.{rules}
 use Rattle.gaps.proofs.make_room.Statement.{statement}
 use Rattle.gaps.proofs.make_room.Tie as tie
 
 returns : tie.Need-returns
-returns c = let x = c.before.before.before.before.before.args in roomy-short x.s x.node.now x.q c.if1.true
+returns c = let x = c.before.before.before.before.before.args in roomy_short x.s x.node.now x.q c.if1.true
 
 returns-2 : tie.Need-returns-2
 returns-2 c =

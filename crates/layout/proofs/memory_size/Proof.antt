@@ -1,12 +1,12 @@
 -- `layout::memory_size` meets its contract. Assumes nothing.
 use native.Mathlib.Omega.{arith}
-use Rattle.layout.specs.Places.{memorySize}
+use Rattle.layout.specs.Places.{memory_size}
 use borrow.Author.Rules.{rules}
 use Rattle.layout.proofs.memory_size.Statement.{statement}
 use Rattle.layout.proofs.memory_size.Tie as tie
 
 returns : tie.Need-returns
-unfolding memorySize
+unfolding memory_size
 returns c = omega arith
 
 pub memory-size-spec : {M : Type 1} → statement M

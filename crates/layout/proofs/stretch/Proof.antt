@@ -4,7 +4,7 @@ use Prim.Native.Nat.{ℕ, ◌+◌}
 use native.Mathlib.Omega.{arith}
 use borrow.Rule.Slice.PartMut.{mid_len}
 use Rattle.words.specs.Words.{part}
-use Rattle.layout.specs.Places.{nodeSize}
+use Rattle.layout.specs.Places.{node_size}
 use borrow.Author.Rules.{rules}
 use Rattle.layout.proofs.stretch.Statement.{statement}
 use Rattle.layout.proofs.stretch.Tie as tie
@@ -14,7 +14,7 @@ returns c =
     let x = c.before.before.before.before.args in
     let a = c.before.before.Node-at in
     let n = c.before.node-size in
-    (rw n.ensures.is (ap (λ (a : ℕ). part x.memory.now a (a + nodeSize x.s)) a.ensures.is), rw (mid_len a.result (a.result + n.result) x.memory.now (omega arith)) (omega arith))
+    (rw n.ensures.is (ap (λ (a : ℕ). part x.memory.now a (a + node_size x.s)) a.ensures.is), rw (mid_len a.result (a.result + n.result) x.memory.now (omega arith)) (omega arith))
 
 pub stretch-spec : {M : Type 1} → statement M
 stretch-spec =

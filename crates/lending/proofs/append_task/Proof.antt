@@ -3,17 +3,17 @@ use mathlib.Core.List.{List}
 use mathlib.Core.Path.{ap, ◌∙◌}
 use Prim.Native.Nat.{ℕ}
 use borrow.Author.Rules.{rules}
-use Rattle.gaps.specs.Close.{taskAppended, taskAnswer}
-use Rattle.queues.specs.Queue.{Queue, taskKind}
-use Rattle.lending.proofs.Lent.{lent-part, lent-as, lent_back}
+use Rattle.gaps.specs.Close.{task_appended, task_answer}
+use Rattle.queues.specs.Queue.{Queue, task_kind}
+use Rattle.lending.proofs.Lent.{lent-part, lent_as, lent_back}
 use Rattle.lending.proofs.append_task.Statement.{statement}
 use Rattle.lending.proofs.append_task.Tie as tie
 
 append-requires : tie.Need-append-requires
-append-requires c κs = let x = c.before.before.before.before in lent-as x.args.s x.args.memory.now x.args.i c.before.Node-at.ensures.is c.before.before.node-size.ensures.is (λ (l : List ℕ). Queue (taskKind x.args.s) l x.args.q) x.requires.queue
+append-requires c κs = let x = c.before.before.before.before in lent_as x.args.s x.args.memory.now x.args.i c.before.Node-at.ensures.is c.before.before.node-size.ensures.is (λ (l : List ℕ). Queue (task_kind x.args.s) l x.args.q) x.requires.queue
 
 returns : tie.Need-returns
-returns c = let x = c.before.before.before.before.before.before.before in (lent_back x.args.s x.args.memory.now x.args.i c.before.before.before.before.Node-at.ensures.is c.before.before.before.before.before.node-size.ensures.is (λ (l : List ℕ). taskAppended x.args.s l x.args.q x.args.item) c.before.before.append.ensures.0, c.before.before.append.ensures.1 ∙ ap (λ (l : List ℕ). taskAnswer x.args.s l x.args.q) (lent-part x.args.s x.args.memory.now x.args.i c.before.before.before.before.Node-at.ensures.is c.before.before.before.before.before.node-size.ensures.is))
+returns c = let x = c.before.before.before.before.before.before.before in (lent_back x.args.s x.args.memory.now x.args.i c.before.before.before.before.Node-at.ensures.is c.before.before.before.before.before.node-size.ensures.is (λ (l : List ℕ). task_appended x.args.s l x.args.q x.args.item) c.before.before.append.ensures.0, c.before.before.append.ensures.1 ∙ ap (λ (l : List ℕ). task_answer x.args.s l x.args.q) (lent-part x.args.s x.args.memory.now x.args.i c.before.before.before.before.Node-at.ensures.is c.before.before.before.before.before.node-size.ensures.is))
 
 pub append-task-spec : {M : Type 1} → statement M
 append-task-spec =

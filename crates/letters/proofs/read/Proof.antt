@@ -5,7 +5,7 @@ use lib.ListN.{length}
 use Rattle.reading.proofs.Laws.{step_end}
 use Rattle.letters.proofs.Steps.{Stepped, stepped, first_block}
 use Prim.Native.Nat.{◌+◌, ◌-◌}
-use Rattle.letters.proofs.UnderWay.{Reading, read-starts, read-passes, read-inside, read_goes, read-ends}
+use Rattle.letters.proofs.UnderWay.{Reading, read_starts, read_passes, read_inside, read_goes, read_ends}
 use borrow.Author.Rules.{rules}
 use Rattle.letters.proofs.read.Statement.{statement}
 use Rattle.letters.proofs.read.Tie as tie
@@ -35,7 +35,7 @@ sub-before : tie.Need-overflow-sub-before invariant-loop decreases-loop
 sub-before c = let x = c.before.before.before.before in (first_block x.args.s x.requires.walks.stretch.range _ c.block_at.ensures.is).0
 
 loop-holds : tie.Need-loop-init invariant-loop decreases-loop
-loop-holds c = let x = c.before.before.before.before in read-starts x.args.s x.args.node.now x.args.b x.args.at x.args.out.now x.requires
+loop-holds c = let x = c.before.before.before.before in read_starts x.args.s x.args.node.now x.args.b x.args.at x.args.out.now x.requires
 
 sub-first : tie.Need-overflow-sub-first invariant-loop decreases-loop
 sub-first c = c.before.loop.invariant.within
@@ -50,14 +50,14 @@ returns : tie.Need-returns invariant-loop decreases-loop
 returns c =
     let x = c.before.before.before.before.before.before.before.before.before in
     let l = c.before.before.before.before.loop in
-    read-ends x.args.s x.args.node.now x.args.b x.args.at x.args.out.now l.out l.block l.skip l.done l.invariant (omega (arith, step_end x.args.node.now l.block (length x.args.out.now - l.done) l.skip (c.before.before.before.before.before.block_at.result - 1) (x.args.s.b - 1) (sym c.before.before.first.ensures ∙ c.enum_told.given.1)))
+    read_ends x.args.s x.args.node.now x.args.b x.args.at x.args.out.now l.out l.block l.skip l.done l.invariant (omega (arith, step_end x.args.node.now l.block (length x.args.out.now - l.done) l.skip (c.before.before.before.before.before.block_at.result - 1) (x.args.s.b - 1) (sym c.before.before.first.ensures ∙ c.enum_told.given.1)))
 
 sub-skip : tie.Need-overflow-sub-skip invariant-loop decreases-loop
 sub-skip c =
     let y = c.before.before in
     let x = y.before.before.before.before.before.before.before.before.before in
     let l = y.before.before.before.before.loop in
-    (read-passes x.args.s x.args.node.now x.args.b x.args.at x.args.out.now l.out l.block l.skip l.done l.invariant _ _ (step_of y) c.if1.true).0
+    (read_passes x.args.s x.args.node.now x.args.b x.args.at x.args.out.now l.out l.block l.skip l.done l.invariant _ _ (step_of y) c.if1.true).0
 
 sub-read-block : tie.Need-overflow-sub-read-block invariant-loop decreases-loop
 sub-read-block c = c.before.before.before.before.before.before.loop.invariant.within
@@ -67,7 +67,7 @@ read-block-requires c κs =
     let y = c.before.before.before in
     let x = y.before.before.before.before.before.before.before.before.before in
     let l = y.before.before.before.before.loop in
-    read-inside x.args.s x.args.node.now x.args.b x.args.at x.args.out.now l.out l.block l.skip l.done l.invariant _ _ (step_of y) c.before.if1.false
+    read_inside x.args.s x.args.node.now x.args.b x.args.at x.args.out.now l.out l.block l.skip l.done l.invariant _ _ (step_of y) c.before.if1.false
 
 add_done : tie.Need-overflow-add-done invariant-loop decreases-loop
 add_done c = omega (arith, (step_of c.before.before.before.before.before.before).carries)
@@ -78,14 +78,14 @@ loop-less c =
     let x = y.before.before.before.before.before.before.before.before.before in
     let l = y.before.before.before.before.loop in
     let w = x.requires.walks.stretch.range.b.low in
-    omega (arith, (read-passes x.args.s x.args.node.now x.args.b x.args.at x.args.out.now l.out l.block l.skip l.done l.invariant _ _ (step_of y) c.if1.true).0)
+    omega (arith, (read_passes x.args.s x.args.node.now x.args.b x.args.at x.args.out.now l.out l.block l.skip l.done l.invariant _ _ (step_of y) c.if1.true).0)
 
 loop-again : tie.Need-loop-preserved invariant-loop decreases-loop
 loop-again c =
     let y = c.before.before in
     let x = y.before.before.before.before.before.before.before.before.before in
     let l = y.before.before.before.before.loop in
-    (read-passes x.args.s x.args.node.now x.args.b x.args.at x.args.out.now l.out l.block l.skip l.done l.invariant _ _ (step_of y) c.if1.true).1
+    (read_passes x.args.s x.args.node.now x.args.b x.args.at x.args.out.now l.out l.block l.skip l.done l.invariant _ _ (step_of y) c.if1.true).1
 
 loop-less-2 : tie.Need-loop-smaller-2 invariant-loop decreases-loop
 loop-less-2 c = omega (arith, c.before.before.before.before.if1.false)
@@ -104,7 +104,7 @@ returns-2 : tie.Need-returns-2 invariant-loop decreases-loop
 returns-2 c =
     let x = c.before.before.before.before.before.before in
     let l = c.before.loop in
-    read-ends x.args.s x.args.node.now x.args.b x.args.at x.args.out.now l.out l.block l.skip l.done l.invariant (omega arith)
+    read_ends x.args.s x.args.node.now x.args.b x.args.at x.args.out.now l.out l.block l.skip l.done l.invariant (omega arith)
 
 pub read_spec : {M : Type 1} → statement M
 read_spec =

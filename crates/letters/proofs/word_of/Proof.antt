@@ -2,7 +2,7 @@
 use native.Mathlib.Omega.{arith}
 use native.Mathlib.Nat.{div-le_self}
 use Prim.Native.Nat.{◌-◌}
-use Rattle.letters.proofs.Steps.{word-walks, owner-in, word_fits, word-is}
+use Rattle.letters.proofs.Steps.{word-walks, owner_in, word_fits, word_is}
 use borrow.Author.Rules.{rules}
 use Rattle.letters.proofs.word_of.Statement.{statement}
 use Rattle.letters.proofs.word_of.Tie as tie
@@ -23,7 +23,7 @@ cast-block-at : tie.Need-overflow-cast-block-at
 cast-block-at c = search rules
 
 block-at-requires : tie.Need-block-at-requires
-block-at-requires c κs = let x = c.before.before.before in (x.requires.walks.stretch.range, owner-in x.args.s x.args.node.now x.args.k x.args.b x.requires _ c.last_of.ensures)
+block-at-requires c κs = let x = c.before.before.before in (x.requires.walks.stretch.range, owner_in x.args.s x.args.node.now x.args.k x.args.b x.requires _ c.last_of.ensures)
 
 rem-result : tie.Need-nonzero-rem-result
 rem-result c = search rules
@@ -38,7 +38,7 @@ shared-slice-read-result : tie.Need-shared-slice-read-result
 shared-slice-read-result c = let x = c.before.before.before.before.before in (word_fits x.args.s x.args.node.now x.args.k x.args.b x.requires _ c.before.block_at.ensures.fits).0
 
 returns : tie.Need-returns
-returns c = let x = c.before.before.before.before.before in word-is x.args.s x.args.node.now x.args.k x.args.b x.requires _ _ c.before.before.last_of.ensures c.before.block_at.ensures.is
+returns c = let x = c.before.before.before.before.before in word_is x.args.s x.args.node.now x.args.k x.args.b x.requires _ _ c.before.before.last_of.ensures c.before.block_at.ensures.is
 
 pub word-of-spec : {M : Type 1} → statement M
 word-of-spec =

@@ -4,14 +4,14 @@ use Prim.Native.Nat.{◌-◌, ◌≤◌}
 use native.Mathlib.Omega.{arith}
 use lib.ListN.{length, take, drop, length-set}
 use lib.Seq.{sets}
-use Rattle.letters.specs.Made.{letterOf}
-use Rattle.letters.proofs.UnderWay.{block_more, block-all}
+use Rattle.letters.specs.Made.{letter_of}
+use Rattle.letters.proofs.UnderWay.{block_more, block_all}
 use borrow.Author.Rules.{rules}
 use Rattle.letters.proofs.write_block.Statement.{statement}
 use Rattle.letters.proofs.write_block.Tie as tie
 
 abbrev invariant-loop : tie.invariant-loop
-invariant-loop node₀ b h body k left n a i₀ node i = (i ≤ n) × (length node ≡ length node₀) × (node ≡ sets node₀ a (take i (drop k (letterOf h body))))
+invariant-loop node₀ b h body k left n a i₀ node i = (i ≤ n) × (length node ≡ length node₀) × (node ≡ sets node₀ a (take i (drop k (letter_of h body))))
 
 abbrev decreases-loop : tie.decreases-loop
 decreases-loop node₀ b h body k left n a i₀ node i = n - i
@@ -38,7 +38,7 @@ returns : tie.Need-returns invariant-loop decreases-loop
 returns c =
     let x = c.before.before.before.before.before.before.before in
     let l = c.before.loop in
-    block-all x.args.h x.args.body.now x.args.k _ (x.args.s.b - 1) c.before.before.before.fewer.ensures x.args.node.now l.node _ _ l.i c.before.before.block_at.ensures.is (omega arith) l.invariant.2
+    block_all x.args.h x.args.body.now x.args.k _ (x.args.s.b - 1) c.before.before.before.fewer.ensures x.args.node.now l.node _ _ l.i c.before.before.block_at.ensures.is (omega arith) l.invariant.2
 
 pub write-block-spec : {M : Type 1} → statement M
 write-block-spec =

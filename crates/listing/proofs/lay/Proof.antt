@@ -3,8 +3,8 @@ use mathlib.Core.Path.{◌∙◌}
 use Prim.Native.Nat.{◌*◌}
 use native.Mathlib.Omega.{arith}
 use lib.ListN.{length-set}
-use Rattle.layout.specs.Numbers.{listWords}
-use Rattle.listing.proofs.Laying.{six, letter-room, letter-none}
+use Rattle.layout.specs.Numbers.{list_words}
+use Rattle.listing.proofs.Laying.{six, letter-room, letter_none}
 use borrow.Author.Rules.{rules}
 use Rattle.listing.proofs.lay.Statement.{statement}
 use Rattle.listing.proofs.lay.Tie as tie
@@ -25,10 +25,10 @@ slice-write-out-6 : tie.Need-slice-write-out-6
 slice-write-out-6 c = simp length-set (omega arith)
 
 returns : tie.Need-returns
-returns c = let x = c.before.args in six x.x x.out.now (x.n * listWords) ∙ letter-room x.x x.n x.out.now c.if1.true
+returns c = let x = c.before.args in six x.x x.out.now (x.n * list_words) ∙ letter-room x.x x.n x.out.now c.if1.true
 
 returns-2 : tie.Need-returns-2
-returns-2 c = let x = c.before.args in letter-none x.x x.n x.out.now c.if1.false
+returns-2 c = let x = c.before.args in letter_none x.x x.n x.out.now c.if1.false
 
 pub lay-spec : {M : Type 1} → statement M
 lay-spec =

@@ -3,22 +3,22 @@ use mathlib.Core.Path.{◌≡◌}
 use Prim.Native.Nat.{◌-◌, ◌≤◌}
 use native.Mathlib.Nat.{mod-lt, div-lt_iff_lt-mul}
 use native.Mathlib.Omega.{arith}
-use Rattle.listing.specs.Asked.{placed, sentBelow}
+use Rattle.listing.specs.Asked.{placed, sent_below}
 use Rattle.listing.proofs.Few.{few-sent}
-use Rattle.listing.proofs.Letters.{queues-start, queues-more}
-use Rattle.listing.proofs.Placing.{rows, so-low, so-long}
+use Rattle.listing.proofs.Letters.{queues_start, queues_more}
+use Rattle.listing.proofs.Placing.{rows, so_low, so_long}
 use borrow.Author.Rules.{rules}
 use Rattle.listing.proofs.list_nodes.Statement.{statement}
 use Rattle.listing.proofs.list_nodes.Tie as tie
 
 abbrev invariant-loop : tie.invariant-loop
-invariant-loop memory s ranks₀ out₀ c₀ ranks out c = (c ≤ 36) × (rows ranks out ≡ placed (sentBelow s memory c) (rows ranks₀ out₀))
+invariant-loop memory s ranks₀ out₀ c₀ ranks out c = (c ≤ 36) × (rows ranks out ≡ placed (sent_below s memory c) (rows ranks₀ out₀))
 
 abbrev decreases-loop : tie.decreases-loop
 decreases-loop memory s ranks₀ out₀ c₀ ranks out c = 36 - c
 
 loop-holds : tie.Need-loop-init invariant-loop decreases-loop
-loop-holds c = let x = c.before.before.args in (omega arith, queues-start x.s x.memory.now (rows x.ranks.now x.out.now))
+loop-holds c = let x = c.before.before.args in (omega arith, queues_start x.s x.memory.now (rows x.ranks.now x.out.now))
 
 list-send-queue-requires : tie.Need-list-send-queue-requires invariant-loop decreases-loop
 list-send-queue-requires c κs =
@@ -27,7 +27,7 @@ list-send-queue-requires c κs =
       x.requires.0,
       (
         ((div-lt_iff_lt-mul {k = 6} {x = l.c} {y = 6} (omega arith)).1 (omega arith), mod-lt l.c {m = 6} (omega arith)),
-        so-low (sentBelow x.args.s x.args.memory.now l.c) x.args.ranks.now x.args.out.now l.ranks l.out l.invariant.1 _ _ x.requires.1 (omega (arith, few-sent x.args.s x.args.memory.now x.requires.0 l.c l.invariant.0)),
+        so_low (sent_below x.args.s x.args.memory.now l.c) x.args.ranks.now x.args.out.now l.ranks l.out l.invariant.1 _ _ x.requires.1 (omega (arith, few-sent x.args.s x.args.memory.now x.requires.0 l.c l.invariant.0)),
       ),
     )
 
@@ -35,10 +35,10 @@ loop-again : tie.Need-loop-preserved invariant-loop decreases-loop
 loop-again c =
     let l = c.before.before.before.before.before.before.loop in
     let x = c.before.before.before.before.before.before.before.before.before.args in
-    (omega arith, queues-more x.s x.memory.now (rows x.ranks.now x.out.now) (rows l.ranks l.out) _ l.c l.invariant.1 c.before.before.list-send-queue.ensures)
+    (omega arith, queues_more x.s x.memory.now (rows x.ranks.now x.out.now) (rows l.ranks l.out) _ l.c l.invariant.1 c.before.before.list-send-queue.ensures)
 
 same_length : tie.Need-same-length invariant-loop decreases-loop
-same_length c = let l = c.before.loop in let x = c.before.before.before.before.args in so-long _ x.ranks.now x.out.now l.ranks l.out l.invariant.1
+same_length c = let l = c.before.loop in let x = c.before.before.before.before.args in so_long _ x.ranks.now x.out.now l.ranks l.out l.invariant.1
 
 returns : tie.Need-returns invariant-loop decreases-loop
 returns c =

@@ -1,6 +1,6 @@
 -- `listing::list_sound` meets its contract: the letters are counted, then laid. Assumes nothing.
 use native.Mathlib.Omega.{arith}
-use Rattle.listing.proofs.Outcomes.{asked, sound-long, zeroes-low, row-long, sum-few, out-short, ranks-low, out-done}
+use Rattle.listing.proofs.Outcomes.{asked, sound-long, zeroes-low, row-long, sum-few, out_short, ranks-low, out-done}
 use borrow.Author.Rules.{rules}
 use Rattle.listing.proofs.list_sound.Statement.{statement}
 use Rattle.listing.proofs.list_sound.Tie as tie
@@ -21,7 +21,7 @@ add-up-requires c κs =
 returns : tie.Need-returns
 returns c =
     let x = c.before.before.before.before.before.before.before.before.before.before.before in
-    out-short _ x.args.memory.now x.requires c.before.before.before.before.before.before.before.before.settings-in.ensures _ _ c.before.before.before.before.before.list-letters.ensures _ _ c.before.add-up.ensures x.args.out.now (omega (arith, c.if1.true))
+    out_short _ x.args.memory.now x.requires c.before.before.before.before.before.before.before.before.settings-in.ensures _ _ c.before.before.before.before.before.list-letters.ensures _ _ c.before.add-up.ensures x.args.out.now (omega (arith, c.if1.true))
 
 list-letters-requires-2 : tie.Need-list-letters-requires-2
 list-letters-requires-2 c κs =

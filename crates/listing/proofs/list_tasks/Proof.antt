@@ -2,22 +2,22 @@
 use mathlib.Core.Path.{◌≡◌}
 use Prim.Native.Nat.{◌-◌, ◌≤◌}
 use native.Mathlib.Omega.{arith}
-use Rattle.listing.specs.Asked.{placed, keptBelow}
-use Rattle.listing.proofs.Few.{few-below}
-use Rattle.listing.proofs.Letters.{tasks-start, tasks-more}
-use Rattle.listing.proofs.Placing.{rows, so-low, so-long}
+use Rattle.listing.specs.Asked.{placed, kept_below}
+use Rattle.listing.proofs.Few.{few_below}
+use Rattle.listing.proofs.Letters.{tasks_start, tasks_more}
+use Rattle.listing.proofs.Placing.{rows, so_low, so_long}
 use borrow.Author.Rules.{rules}
 use Rattle.listing.proofs.list_tasks.Statement.{statement}
 use Rattle.listing.proofs.list_tasks.Tie as tie
 
 abbrev invariant-loop : tie.invariant-loop
-invariant-loop memory s ranks₀ out₀ task₀ ranks out task = (task ≤ 256) × (rows ranks out ≡ placed (keptBelow s memory task) (rows ranks₀ out₀))
+invariant-loop memory s ranks₀ out₀ task₀ ranks out task = (task ≤ 256) × (rows ranks out ≡ placed (kept_below s memory task) (rows ranks₀ out₀))
 
 abbrev decreases-loop : tie.decreases-loop
 decreases-loop memory s ranks₀ out₀ task₀ ranks out task = 256 - task
 
 loop-holds : tie.Need-loop-init invariant-loop decreases-loop
-loop-holds c = let x = c.before.before.args in (omega arith, tasks-start x.s x.memory.now (rows x.ranks.now x.out.now))
+loop-holds c = let x = c.before.before.args in (omega arith, tasks_start x.s x.memory.now (rows x.ranks.now x.out.now))
 
 list-task-requires : tie.Need-list-task-requires invariant-loop decreases-loop
 list-task-requires c κs =
@@ -26,7 +26,7 @@ list-task-requires c κs =
       x.requires.0,
       (
         omega arith,
-        so-low (keptBelow x.args.s x.args.memory.now l.task) x.args.ranks.now x.args.out.now l.ranks l.out l.invariant.1 _ _ x.requires.1 (omega (arith, few-below x.args.s x.args.memory.now x.requires.0 l.task)),
+        so_low (kept_below x.args.s x.args.memory.now l.task) x.args.ranks.now x.args.out.now l.ranks l.out l.invariant.1 _ _ x.requires.1 (omega (arith, few_below x.args.s x.args.memory.now x.requires.0 l.task)),
       ),
     )
 
@@ -34,10 +34,10 @@ loop-again : tie.Need-loop-preserved invariant-loop decreases-loop
 loop-again c =
     let l = c.before.before.before.before.before.before.loop in
     let x = c.before.before.before.before.before.before.before.before.before.args in
-    (omega arith, tasks-more x.s x.memory.now (rows x.ranks.now x.out.now) (rows l.ranks l.out) _ l.task l.invariant.1 c.before.before.list-task.ensures)
+    (omega arith, tasks_more x.s x.memory.now (rows x.ranks.now x.out.now) (rows l.ranks l.out) _ l.task l.invariant.1 c.before.before.list-task.ensures)
 
 same_length : tie.Need-same-length invariant-loop decreases-loop
-same_length c = let l = c.before.loop in let x = c.before.before.before.before.args in so-long _ x.ranks.now x.out.now l.ranks l.out l.invariant.1
+same_length c = let l = c.before.loop in let x = c.before.before.before.before.args in so_long _ x.ranks.now x.out.now l.ranks l.out l.invariant.1
 
 returns : tie.Need-returns invariant-loop decreases-loop
 returns c =

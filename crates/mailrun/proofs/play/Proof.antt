@@ -2,7 +2,7 @@
 use mathlib.Core.Path.{sym, ◌∙◌}
 use native.Mathlib.Omega.{arith}
 use borrow.Author.Rules.{rules}
-use Rattle.mailrun.proofs.Played.{turned-is, unknown-is, played-short, played-send, played-receive, played-turn, played-other}
+use Rattle.mailrun.proofs.Played.{turned_is, unknown_is, played_short, played-send, played-receive, played-turn, played_other}
 use Rattle.mailrun.proofs.play.Statement.{statement}
 use Rattle.mailrun.proofs.play.Tie as tie
 
@@ -10,7 +10,7 @@ bare-requires : tie.Need-bare-requires
 bare-requires c κs = search rules
 
 returns : tie.Need-returns
-returns c = unknown-is _ c.bare.ensures ∙ sym (played-short _ _ c.before.if1.true)
+returns c = unknown_is _ c.bare.ensures ∙ sym (played_short _ _ c.before.if1.true)
 
 shared-slice-read-kind : tie.Need-shared-slice-read-kind
 shared-slice-read-kind c = search rules
@@ -40,13 +40,13 @@ same-length-3 : tie.Need-same-length-3
 same-length-3 c = search rules
 
 returns-4 : tie.Need-returns-4
-returns-4 c = turned-is _ c.before.before.mail-turn.ensures ∙ sym (played-turn _ _ (omega arith) (omega arith))
+returns-4 c = turned_is _ c.before.before.mail-turn.ensures ∙ sym (played-turn _ _ (omega arith) (omega arith))
 
 bare-requires-2 : tie.Need-bare-requires-2
 bare-requires-2 c κs = search rules
 
 returns-5 : tie.Need-returns-5
-returns-5 c = unknown-is _ c.bare2.ensures ∙ sym (played-other _ _ (omega arith) (λ z. omega arith) (λ z. omega arith) (λ z. omega arith))
+returns-5 c = unknown_is _ c.bare2.ensures ∙ sym (played_other _ _ (omega arith) (λ z. omega arith) (λ z. omega arith) (λ z. omega arith))
 
 pub play-spec : {M : Type 1} → statement M
 play-spec =

@@ -9,8 +9,8 @@ use lib.ListN.{get_or}
 use borrow.Author.Rules.{rules}
 use borrow.Author.Tests.{eq-eqb, ne_eqb}
 use Rattle.words.specs.Words.{every}
-use Rattle.sound.proofs.Tests.{every-none, turn-no, turn_more, turn-all}
-use Rattle.places.specs.Given.{allMarked}
+use Rattle.sound.proofs.Tests.{every_none, turn_no, turn_more, turn_all}
+use Rattle.places.specs.Given.{all_marked}
 use Rattle.places.proofs.are_all_marked.Statement.{statement}
 use Rattle.places.proofs.are_all_marked.Tie as tie
 
@@ -21,7 +21,7 @@ abbrev decreases-loop : tie.decreases-loop
 decreases-loop marks m b₀ b = m - b
 
 loop-holds : tie.Need-loop-init invariant-loop decreases-loop
-loop-holds c = (omega arith, every-none _)
+loop-holds c = (omega arith, every_none _)
 
 add-if1 : tie.Need-overflow-add-if1 invariant-loop decreases-loop
 add-if1 c = search rules
@@ -30,8 +30,8 @@ element-copy-out-if1 : tie.Need-element-copy-out-if1 invariant-loop decreases-lo
 element-copy-out-if1 c = search rules
 
 returns : tie.Need-returns invariant-loop decreases-loop
-unfolding allMarked
-returns c = let y = c.before.before.before.before in let x = y.args in turn-no (λ b. eqb (get_or x.marks.now (suc b) 0) 1) x.m c.before.before.before.loop.b (omega arith) _ refl (ne_eqb _ 1 (rw (add-one c.before.before.before.loop.b) at c.if1.true))
+unfolding all_marked
+returns c = let y = c.before.before.before.before in let x = y.args in turn_no (λ b. eqb (get_or x.marks.now (suc b) 0) 1) x.m c.before.before.before.loop.b (omega arith) _ refl (ne_eqb _ 1 (rw (add-one c.before.before.before.loop.b) at c.if1.true))
 
 add-b : tie.Need-overflow-add-b invariant-loop decreases-loop
 add-b c = search rules
@@ -43,8 +43,8 @@ loop-again : tie.Need-loop-preserved invariant-loop decreases-loop
 loop-again c = let y = c.before.before.before.before in let x = y.args in (omega arith, turn_more (λ b. eqb (get_or x.marks.now (suc b) 0) 1) x.m c.before.before.before.loop.b c.before.before.before.loop.invariant.1 _ refl (eq-eqb _ 1 (rw (add-one c.before.before.before.loop.b) at c.if1.false)))
 
 returns-2 : tie.Need-returns-2 invariant-loop decreases-loop
-unfolding allMarked
-returns-2 c = let y = c.before.before in let x = y.args in turn-all (λ b. eqb (get_or x.marks.now (suc b) 0) 1) x.m c.before.loop.b (omega arith) c.before.loop.invariant.1
+unfolding all_marked
+returns-2 c = let y = c.before.before in let x = y.args in turn_all (λ b. eqb (get_or x.marks.now (suc b) 0) 1) x.m c.before.loop.b (omega arith) c.before.loop.invariant.1
 
 pub are-all-marked-spec : {M : Type 1} → statement M
 are-all-marked-spec =

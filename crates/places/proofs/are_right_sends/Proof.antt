@@ -6,22 +6,22 @@ use native.Mathlib.Omega.{arith}
 use borrow.Author.Rules.{rules}
 use borrow.Author.Tests.{not-true, not-false}
 use Rattle.words.specs.Words.{every}
-use Rattle.sound.proofs.Tests.{every-none}
+use Rattle.sound.proofs.Tests.{every_none}
 use Rattle.visits.specs.Marks.{marked}
-use Rattle.places.specs.Given.{standingFrom}
-use Rattle.places.proofs.Ranges.{rightAt, range_none, range-end, range-bad, range-next}
-use Rattle.places.proofs.Begun.{send-place, judged-at}
+use Rattle.places.specs.Given.{standing_from}
+use Rattle.places.proofs.Ranges.{right_at, range_none, range_end, range_bad, range_next}
+use Rattle.places.proofs.Begun.{send-place, judged_at}
 use Rattle.places.proofs.are_right_sends.Statement.{statement}
 use Rattle.places.proofs.are_right_sends.Tie as tie
 
 abbrev invariant-loop : tie.invariant-loop
-invariant-loop memory s marks₀ i k₀ marks k = (k ≤ 6) × (every k (rightAt s memory i marks₀ 1) ≡ true) × (marks ≡ marked marks₀ (standingFrom s memory i 1 k))
+invariant-loop memory s marks₀ i k₀ marks k = (k ≤ 6) × (every k (right_at s memory i marks₀ 1) ≡ true) × (marks ≡ marked marks₀ (standing_from s memory i 1 k))
 
 abbrev decreases-loop : tie.decreases-loop
 decreases-loop memory s marks₀ i k₀ marks k = 6 - k
 
 loop-holds : tie.Need-loop-init invariant-loop decreases-loop
-loop-holds c = let y = c.before in let x = y.args in (omega arith, every-none _, range_none x.s x.memory.now x.i x.marks.now 1)
+loop-holds c = let y = c.before in let x = y.args in (omega arith, every_none _, range_none x.s x.memory.now x.i x.marks.now 1)
 
 send-kind-requires : tie.Need-send-kind-requires invariant-loop decreases-loop
 send-kind-requires c κs = search rules
@@ -39,7 +39,7 @@ are-right-letters-requires : tie.Need-are-right-letters-requires invariant-loop 
 are-right-letters-requires c κs = let y = c.before.before.before.before.before.before in let x = y.args in (y.requires.0, (y.requires.1, rw (c.before.before.send-kind.ensures, c.before.IsSend-at.ensures.is) (send-place x.s x.memory.now x.i y.requires.0 y.requires.1 c.before.before.before.before.loop.k (omega arith)).stands))
 
 returns : tie.Need-returns invariant-loop decreases-loop
-returns c = let y = c.before.before.before.before.before.before.before.before in let x = y.args in range-bad x.s x.memory.now x.i x.marks.now 1 6 c.before.before.before.before.before.before.loop.marks c.before.before.before.before.before.before.loop.k c.before.before.before.before.before.before.loop.invariant.1 c.before.before.before.before.before.before.loop.invariant.2 _ _ (judged-at x.s x.memory.now x.i (1 + c.before.before.before.before.before.before.loop.k) _ (send-place x.s x.memory.now x.i y.requires.0 y.requires.1 c.before.before.before.before.before.before.loop.k (omega arith)) c.before.before.before.before.before.before.loop.marks _ _ (rw (c.before.before.before.before.send-kind.ensures, c.before.before.before.IsSend-at.ensures.is) at c.before.are-right-letters.ensures)) (omega arith) (not-true _ c.if1.true)
+returns c = let y = c.before.before.before.before.before.before.before.before in let x = y.args in range_bad x.s x.memory.now x.i x.marks.now 1 6 c.before.before.before.before.before.before.loop.marks c.before.before.before.before.before.before.loop.k c.before.before.before.before.before.before.loop.invariant.1 c.before.before.before.before.before.before.loop.invariant.2 _ _ (judged_at x.s x.memory.now x.i (1 + c.before.before.before.before.before.before.loop.k) _ (send-place x.s x.memory.now x.i y.requires.0 y.requires.1 c.before.before.before.before.before.before.loop.k (omega arith)) c.before.before.before.before.before.before.loop.marks _ _ (rw (c.before.before.before.before.send-kind.ensures, c.before.before.before.IsSend-at.ensures.is) at c.before.are-right-letters.ensures)) (omega arith) (not-true _ c.if1.true)
 
 add-k : tie.Need-overflow-add-k invariant-loop decreases-loop
 add-k c = search rules
@@ -48,11 +48,11 @@ loop-less : tie.Need-loop-smaller invariant-loop decreases-loop
 loop-less c = search rules
 
 loop-again : tie.Need-loop-preserved invariant-loop decreases-loop
-loop-again c = let y = c.before.before.before.before.before.before.before.before in let x = y.args in let w = range-next x.s x.memory.now x.i x.marks.now 1 6 c.before.before.before.before.before.before.loop.marks c.before.before.before.before.before.before.loop.k c.before.before.before.before.before.before.loop.invariant.1 c.before.before.before.before.before.before.loop.invariant.2 _ _ (judged-at x.s x.memory.now x.i (1 + c.before.before.before.before.before.before.loop.k) _ (send-place x.s x.memory.now x.i y.requires.0 y.requires.1 c.before.before.before.before.before.before.loop.k (omega arith)) c.before.before.before.before.before.before.loop.marks _ _ (rw (c.before.before.before.before.send-kind.ensures, c.before.before.before.IsSend-at.ensures.is) at c.before.are-right-letters.ensures)) (not-false _ c.if1.false) in
+loop-again c = let y = c.before.before.before.before.before.before.before.before in let x = y.args in let w = range_next x.s x.memory.now x.i x.marks.now 1 6 c.before.before.before.before.before.before.loop.marks c.before.before.before.before.before.before.loop.k c.before.before.before.before.before.before.loop.invariant.1 c.before.before.before.before.before.before.loop.invariant.2 _ _ (judged_at x.s x.memory.now x.i (1 + c.before.before.before.before.before.before.loop.k) _ (send-place x.s x.memory.now x.i y.requires.0 y.requires.1 c.before.before.before.before.before.before.loop.k (omega arith)) c.before.before.before.before.before.before.loop.marks _ _ (rw (c.before.before.before.before.send-kind.ensures, c.before.before.before.IsSend-at.ensures.is) at c.before.are-right-letters.ensures)) (not-false _ c.if1.false) in
     (omega arith, w.0, w.1)
 
 returns-2 : tie.Need-returns-2 invariant-loop decreases-loop
-returns-2 c = let y = c.before.before.before in let x = y.args in range-end x.s x.memory.now x.i x.marks.now 1 6 c.before.loop.marks c.before.loop.k c.before.loop.invariant.1 c.before.loop.invariant.2 (omega arith)
+returns-2 c = let y = c.before.before.before in let x = y.args in range_end x.s x.memory.now x.i x.marks.now 1 6 c.before.loop.marks c.before.loop.k c.before.loop.invariant.1 c.before.loop.invariant.2 (omega arith)
 
 pub are-right-sends-spec : {M : Type 1} → statement M
 are-right-sends-spec =

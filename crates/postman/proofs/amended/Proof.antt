@@ -39,7 +39,7 @@ use denote.Triple.Spec.{Meets, triple_of}
 use denote.Triple.Table.{entered, cited}
 use denote.Triple.Walked.{says, Stays, stay_none, walk_of, AllGo, Goes-none, Walks, ends_at, walked, walk_Meets}
 use denote.Exit.{yes}
-use Rattle.postman.specs.Position.{stoppedAt}
+use Rattle.postman.specs.Position.{stopped_at}
 use Rattle.postman.specs.declared.Position.{Position}
 use Rattle.postman.specs.contracts.Position as T
 use Rattle.postman.proofs.Position.TheLaws as T'
@@ -85,7 +85,7 @@ module _ {M : Type 1} {𝓤 : Ura M} (𝓛 : Logic 𝓤) (at_mem : Memory → SP
   vals = (T'.lowered h ∷ [], (vint w32 n1 ∷ [], (vint w32 n2 ∷ [], (vint w32 n3 ∷ [], tt))))
 
   abbrev found : Position
-  found = stoppedAt h n1 n2 n3
+  found = stopped_at h n1 n2 n3
 
   abbrev Post : Val → SProp 𝓤
   Post = (walk_of 𝓛 f.ended stayed (f.clauses 𝓛 at_mem run)).post ((tt, tt, tt, a, vals), tt)

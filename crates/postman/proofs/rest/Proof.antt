@@ -1,4 +1,4 @@
--- `postman::rest` meets its contract: a walk of its MIR, by hand. The struct behind the `&mut` is read, `at_rest` is called on it by value, and what it returns is stored.
+-- `postman::rest` meets its contract: a walk of its MIR, by hand. The struct behind the `&mut` is read, `at_rest_lem` is called on it by value, and what it returns is stored.
 -- Assumes nothing.
 use mathlib.Core.Path.{◌≡◌, refl}
 use Prim.Native.Nat.{ℕ, ◌<◌, ◌^◌}
@@ -34,7 +34,7 @@ use denote.Triple.Spec.{Meets, triple_of}
 use denote.Triple.Table.{entered, cited}
 use denote.Triple.Clauses.{ensured, lasts}
 use denote.Triple.Walked.{says, Stays, stay_ref, walk_of, AllGo, Goes-ref, Walks, ends_at, walked, walk_Meets}
-use Rattle.postman.specs.Position.{restedAt}
+use Rattle.postman.specs.Position.{rested_at}
 use Rattle.postman.specs.declared.Position.{Position}
 use Rattle.postman.specs.contracts.Position as T
 use Rattle.postman.proofs.Position.TheLaws as T'
@@ -65,7 +65,7 @@ module _ {M : Type 1} {𝓤 : Ura M} (𝓛 : Logic 𝓤) (at_mem : Memory → SP
 
   -- what the core answers
   abbrev found : Position
-  found = restedAt h
+  found = rested_at h
 
   abbrev Post : Val → SProp 𝓤
   Post = (walk_of 𝓛 f.ended stayed (f.clauses 𝓛 at_mem run)).post (((κ, tt), (q, tt), tt, x, at), tt)

@@ -39,7 +39,7 @@ use denote.Triple.Spec.{Meets, triple_of}
 use denote.Triple.Table.{entered, cited}
 use denote.Triple.Walked.{says, Stays, stay_none, walk_of, AllGo, Goes-none, Walks, ends_at, walked, walk_Meets}
 use denote.Exit.{yes}
-use Rattle.postman.specs.Position.{restedAt}
+use Rattle.postman.specs.Position.{rested_at}
 use Rattle.postman.specs.declared.Position.{Position}
 use Rattle.postman.specs.contracts.Position as T
 use Rattle.postman.proofs.Position.TheLaws as T'
@@ -85,7 +85,7 @@ module _ {M : Type 1} {𝓤 : Ura M} (𝓛 : Logic 𝓤) (at_mem : Memory → SP
   vals = (T'.lowered h ∷ [], tt)
 
   abbrev found : Position
-  found = restedAt h
+  found = rested_at h
 
   abbrev Post : Val → SProp 𝓤
   Post = (walk_of 𝓛 f.ended stayed (f.clauses 𝓛 at_mem run)).post ((tt, tt, tt, a, vals), tt)

@@ -37,7 +37,7 @@ use denote.Triple.Table.{entered, cited}
 use denote.Triple.Clauses.{ensured, lasts}
 use denote.Triple.Walked.{says, Stays, stay_ref, stay_none, walk_of, AllGo, Goes-none, Goes-ref, Walks, ends_at, walked, walk_Meets}
 use denote.Exit.{yes}
-use Rattle.postman.specs.Position.{stoppedAt}
+use Rattle.postman.specs.Position.{stopped_at}
 use Rattle.postman.specs.declared.Position.{Position}
 use Rattle.postman.specs.contracts.Position as T
 use Rattle.postman.proofs.Position.TheLaws as T'
@@ -68,7 +68,7 @@ module _ {M : Type 1} {𝓤 : Ura M} (𝓛 : Logic 𝓤) (at_mem : Memory → SP
 
   -- what the core answers
   abbrev found : Position
-  found = stoppedAt h n1 n2 n3
+  found = stopped_at h n1 n2 n3
 
   abbrev Post : Val → SProp 𝓤
   Post = (walk_of 𝓛 f.ended stayed (f.clauses 𝓛 at_mem run)).post (((κ, tt), (q, tt), tt, x, at), tt)

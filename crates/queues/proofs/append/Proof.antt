@@ -1,6 +1,6 @@
 -- `queues::append` meets its contract, by whether there is room. Assumes nothing.
 use lib.ListN.{length-set}
-use Rattle.queues.specs.Moves.{appended, appendAnswer, added}
+use Rattle.queues.specs.Moves.{appended, append_answer, added}
 use borrow.Author.Tests.{lt-ltb, le-ltb}
 use native.Mathlib.Omega.{arith}
 use borrow.Author.Rules.{rules}
@@ -17,11 +17,11 @@ slice-write-node-2 : tie.Need-slice-write-node-2
 slice-write-node-2 c = simp length-set (omega arith)
 
 returns : tie.Need-returns
-unfolding appended appendAnswer added
+unfolding appended append_answer added
 returns c = (simp (lt-ltb _ _ c.before.if1.true, c.slot_at.ensures.is), simp (lt-ltb _ _ c.before.if1.true))
 
 returns-2 : tie.Need-returns-2
-unfolding appended appendAnswer
+unfolding appended append_answer
 returns-2 c = (simp (le-ltb _ _ c.before.before.before.before.before.if1.false, c.before.before.count-up.ensures), simp (le-ltb _ _ c.before.before.before.before.before.if1.false))
 
 pub append-spec : {M : Type 1} → statement M

@@ -5,7 +5,7 @@ use lib.ListN.{get_or, set, length-set}
 use Rattle.queues.specs.Moves.{dropped}
 use native.Mathlib.Omega.{arith}
 use borrow.Author.Rules.{rules}
-use Rattle.queues.proofs.Slots.{slot-past}
+use Rattle.queues.proofs.Slots.{slot_past}
 use Rattle.queues.proofs.drop_first.Statement.{statement}
 use Rattle.queues.proofs.drop_first.Tie as tie
 
@@ -21,7 +21,7 @@ returns c =
     let x = c.before.before.before.before.before.before.before.args in
     let l = x.node.now in (
       ap₂ (λ (a n : ℕ). set (set (set l a 0) x.q n) (x.q + 1) (get_or l (x.q + 1) 0 - 1)) c.before.before.before.slot_at.ensures.is
-          (slot-past x.k x.q (get_or l x.q 0) 1 c.before.slot-at2.result c.before.slot-at2.ensures.is),
+          (slot_past x.k x.q (get_or l x.q 0) 1 c.before.slot-at2.result c.before.slot-at2.ensures.is),
       simp c.before.before.before.slot_at.ensures.is,
     )
 

@@ -43,7 +43,7 @@ use denote.Triple.Table.{entered, cited}
 use denote.Triple.Walked.{says, Stays, stay_none, walk_of, Goes-none, Walks, ends_at, walked, walk_Meets}
 use denote.Exit.{yes}
 use denote.Triple.Clauses.{ensured, lasts}
-use Rattle.reading.specs.Read.{stepAt}
+use Rattle.reading.specs.Read.{step_at}
 use Rattle.reading.specs.declared.Reader.{Reader}
 use Rattle.reading.specs.declared.Step.{Step}
 use Rattle.reading.specs.contracts.Reader as T
@@ -82,7 +82,7 @@ module _ {M : Type 1} {𝓤 : Ura M} (𝓛 : Logic 𝓤) (mem : Memory → SProp
   v = slice_val d.node.ref_ptr (length d.node.now)
 
   abbrev found : Step
-  found = stepAt d.node.now d.block d.left at before room
+  found = step_at d.node.now d.block d.left at before room
 
   -- the parameters, and their machine values
   abbrev x : Reader × (ℕ × (ℕ × (ℕ × Unit {0})))

@@ -1,12 +1,12 @@
 -- `receive::collect` meets its contract: the stretch is lent and comes back. Assumes nothing.
-use Rattle.receive.proofs.Sounds.{seated-front, lent_fits, lent-kept, lent_back}
+use Rattle.receive.proofs.Sounds.{seated_front, lent_fits, lent-kept, lent_back}
 use native.Mathlib.Omega.{arith}
 use borrow.Author.Rules.{rules}
 use Rattle.receive.proofs.collect.Statement.{statement}
 use Rattle.receive.proofs.collect.Tie as tie
 
 settings-in-requires : tie.Need-settings-in-requires
-settings-in-requires c κs = let x = c.before.before.before in seated-front x.args.memory.now x.args.i x.args.q x.requires
+settings-in-requires c κs = let x = c.before.before.before in seated_front x.args.memory.now x.args.i x.args.q x.requires
 
 node-at-requires : tie.Need-node-at-requires
 node-at-requires c κs = rw c.settings-in.ensures (c.before.before.before.before.requires.sized.range, c.before.before.before.before.requires.home)

@@ -1,6 +1,6 @@
 -- `receive::take_at` meets its contract: by whether there is room. Assumes nothing.
-use Rattle.receive.proofs.Outcomes.{holds-whole, at-short, at_done}
-use Rattle.receive.proofs.Bodies.{lies-first}
+use Rattle.receive.proofs.Outcomes.{holds-whole, at_short, at_done}
+use Rattle.receive.proofs.Bodies.{lies_first}
 use borrow.Author.Rules.{rules}
 use Rattle.receive.proofs.take_at.Statement.{statement}
 use Rattle.receive.proofs.take_at.Tie as tie
@@ -9,10 +9,10 @@ body-length-requires : tie.Need-body-length-requires
 body-length-requires c κs = let x = c.before.before.before.before.before in holds-whole x.args.s x.args.node.now x.args.q x.args.k x.requires c.before.first_block.ensures
 
 returns : tie.Need-returns
-returns c = let x = c.before.before.before.before.before.before.before in at-short x.args.s x.args.node.now x.args.q x.args.k x.requires c.before.before.before.first_block.ensures c.before.body-length.ensures x.args.out.now c.if1.true
+returns c = let x = c.before.before.before.before.before.before.before in at_short x.args.s x.args.node.now x.args.q x.args.k x.requires c.before.before.before.first_block.ensures c.before.body-length.ensures x.args.out.now c.if1.true
 
 word-of-requires : tie.Need-word-of-requires
-word-of-requires c κs = let x = c.before.before.before.before.before.before.before.before in lies-first x.args.s x.args.node.now _ (holds-whole x.args.s x.args.node.now x.args.q x.args.k x.requires c.before.before.before.before.first_block.ensures)
+word-of-requires c κs = let x = c.before.before.before.before.before.before.before.before in lies_first x.args.s x.args.node.now _ (holds-whole x.args.s x.args.node.now x.args.q x.args.k x.requires c.before.before.before.before.first_block.ensures)
 
 read-body-requires : tie.Need-read-body-requires
 read-body-requires c κs = let x = c.before.before.before.before.before.before.before.before.before.before.before in record { letter = holds-whole x.args.s x.args.node.now x.args.q x.args.k x.requires c.before.before.before.before.before.before.before.first_block.ensures; words = c.before.before.before.before.before.body-length.ensures; room = c.before.before.before.before.if1.false }

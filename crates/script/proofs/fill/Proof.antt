@@ -1,7 +1,7 @@
 -- `script::fill` meets its contract: after i turns the first i words rise. Assumes nothing.
 use Rattle.std.proofs.Common.{◌≡◌, ◌+◌, ◌-◌, ◌%◌, ◌<◌, ◌≤◌, ◌++◌, length, drop, refl, ◌∙◌, arith, length-set, rules}
 use Rattle.script.specs.Words.{rising}
-use Rattle.script.proofs.Laws.{rising-more, rising-all, rising-first, rising-next}
+use Rattle.script.proofs.Laws.{rising_more, rising_all, rising_first, rising_next}
 use Rattle.script.proofs.fill.Statement.{statement}
 use Rattle.script.proofs.fill.Tie as tie
 
@@ -13,7 +13,7 @@ decreases-loop words₀ f next₀ i₀ words next i = length words₀ - i
 
 loop-holds : tie.Need-loop-init invariant-loop decreases-loop
 unfolding rising
-loop-holds c = (search rules, refl, refl, rising-first c.before.args.f (omega arith))
+loop-holds c = (search rules, refl, refl, rising_first c.before.args.f (omega arith))
 
 mul_words : tie.Need-overflow-mul-words invariant-loop decreases-loop
 mul_words c = search rules
@@ -36,8 +36,8 @@ loop-again c =
     let x = c.before.before.before.before.args in (
       search rules,
       simp length-set (search rules),
-      rw l.invariant.2 (rising-more x.f l.i l.next x.words.now (omega arith) l.invariant.3),
-      rising-next x.f l.i l.next c.wrapping-add-u32.result l.invariant.3 c.wrapping-add-u32.ensures,
+      rw l.invariant.2 (rising_more x.f l.i l.next x.words.now (omega arith) l.invariant.3),
+      rising_next x.f l.i l.next c.wrapping-add-u32.result l.invariant.3 c.wrapping-add-u32.ensures,
     )
 
 same_length : tie.Need-same-length invariant-loop decreases-loop
@@ -48,7 +48,7 @@ returns c =
     let l = c.before.loop in
     let x = c.before.before.before.args in
     let q : l.i ≡ length x.words.now = omega arith in
-    l.invariant.2 ∙ rw q (rising-all x.f (length x.words.now) x.words.now refl)
+    l.invariant.2 ∙ rw q (rising_all x.f (length x.words.now) x.words.now refl)
 
 pub fill_spec : {M : Type 1} → statement M
 fill_spec =

@@ -1,7 +1,7 @@
 -- `script::sum` meets its contract: what is summed and what is left make the sum. Assumes nothing.
 use Rattle.std.proofs.Common.{◌≡◌, ◌+◌, ◌-◌, ◌%◌, ◌<◌, ◌≤◌, ◌++◌, length, drop, refl, ◌∙◌, arith, length-set, rules}
 use Rattle.script.specs.Words.{summed, sum_of}
-use Rattle.script.proofs.Laws.{summed-more, summed-all}
+use Rattle.script.proofs.Laws.{summed_more, summed_all}
 use Rattle.script.proofs.sum.Statement.{statement}
 use Rattle.script.proofs.sum.Tie as tie
 
@@ -36,10 +36,10 @@ loop-less : tie.Need-loop-smaller invariant-loop decreases-loop
 loop-less c = search rules
 
 loop-again : tie.Need-loop-preserved invariant-loop decreases-loop
-loop-again c = let l = c.before.before.loop in let x = c.before.before.before.args.words.now in (search rules, summed-more l.h l.i x (sum_of x) (omega arith) l.invariant.1)
+loop-again c = let l = c.before.before.loop in let x = c.before.before.before.args.words.now in (search rules, summed_more l.h l.i x (sum_of x) (omega arith) l.invariant.1)
 
 returns : tie.Need-returns invariant-loop decreases-loop
-returns c = let l = c.before.loop in let x = c.before.before.args.words.now in summed-all l.h l.i x (sum_of x) (omega arith) l.invariant.1
+returns c = let l = c.before.loop in let x = c.before.before.args.words.now in summed_all l.h l.i x (sum_of x) (omega arith) l.invariant.1
 
 pub sum-spec : {M : Type 1} → statement M
 sum-spec =

@@ -1,5 +1,5 @@
 -- `send::send_letter` meets its contract: the stretch that was lent comes back into the memory. Assumes nothing.
-use Rattle.letters.specs.Made.{letterOf}
+use Rattle.letters.specs.Made.{letter_of}
 use Rattle.send.proofs.Outcomes.{posts-lent, posted-back}
 use borrow.Author.Rules.{rules}
 use Rattle.send.proofs.send_letter.Statement.{statement}
@@ -13,7 +13,7 @@ post-requires c κs =
 returns : tie.Need-returns
 returns c =
     let x = c.before.before.before.before.before.before.before.before.before in
-    posted-back x.args.s x.args.memory.now x.args.header.from _ _ c.before.before.before.before.before.Node-at.ensures.is c.before.before.before.before.node-size.ensures.is x.args.goal (letterOf x.args.header x.args.body.now) _ _ c.before.before.post.ensures
+    posted-back x.args.s x.args.memory.now x.args.header.from _ _ c.before.before.before.before.before.Node-at.ensures.is c.before.before.before.before.node-size.ensures.is x.args.goal (letter_of x.args.header x.args.body.now) _ _ c.before.before.post.ensures
 
 pub send-letter-spec : {M : Type 1} → statement M
 send-letter-spec =

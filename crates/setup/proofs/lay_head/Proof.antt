@@ -2,7 +2,7 @@
 use mathlib.Core.Path.{ap}
 use native.Mathlib.Omega.{arith}
 use lib.ListN.{length, length-set}
-use Rattle.setup.specs.Fresh.{freshHead}
+use Rattle.setup.specs.Fresh.{fresh_head}
 use borrow.Author.Rules.{rules}
 use Rattle.setup.proofs.lay_head.Statement.{statement}
 use Rattle.setup.proofs.lay_head.Tie as tie
@@ -23,7 +23,7 @@ slice-write-head-5 : tie.Need-slice-write-head-5
 slice-write-head-5 c = simp length-set (omega (arith, ap length c.before.before.before.before.before.requires.1))
 
 returns : tie.Need-returns
-unfolding freshHead
+unfolding fresh_head
 returns c = rw c.before.before.before.before.before.requires.1
 
 pub lay-head-spec : {M : Type 1} → statement M

@@ -5,28 +5,28 @@ use Prim.Native.Nat.{ℕ, ◌-◌}
 use native.Mathlib.Omega.{arith}
 use borrow.Author.Rules.{rules}
 use borrow.Rule.Slice.PartMut.{put_mid, same_len_mid}
-use Rattle.layout.proofs.Fits.{nodes-fit}
-use Rattle.setup.proofs.Laws.{cleared, head-next, nodes-start, memory-back}
+use Rattle.layout.proofs.Fits.{nodes_fit}
+use Rattle.setup.proofs.Laws.{cleared, head_next, nodes_start, memory-back}
 use Rattle.setup.proofs.lay_memory.Statement.{statement}
 use Rattle.setup.proofs.lay_memory.Tie as tie
 
 part-lay-head-end : tie.Need-slice-bounds-lay-head-end
 part-lay-head-end c =
     let y = c.before.before.before.before.before.before in
-    omega (arith, nodes-fit y.args.s, y.requires.0.long, c.before.before.clear.auto.0)
+    omega (arith, nodes_fit y.args.s, y.requires.0.long, c.before.before.clear.auto.0)
 
 lay-head-requires : tie.Need-lay-head-requires
 lay-head-requires c κs =
     let y = c.before.before.before.before.before.before.before in
     let k = c.before.before.before.clear in
-    (y.requires.0.range, head-next y.args.s y.requires.0.range k.new.0 (cleared y.args.s y.args.memory.now k.new.0 k.ensures y.requires.0.long))
+    (y.requires.0.range, head_next y.args.s y.requires.0.range k.new.0 (cleared y.args.s y.args.memory.now k.new.0 k.ensures y.requires.0.long))
 
 part-copy-end : tie.Need-slice-bounds-copy-end
 part-copy-end c =
     let y = c.before.before.before.before.before.before.before.before.before.before in
     let k = c.before.before.before.before.before.before.clear in
     let h = c.before.before.lay-head in
-    omega (arith, nodes-fit y.args.s, y.requires.0.long, k.auto.0, same_len_mid 0 (24 - 0) k.new.0 h.new.0 h.auto.0)
+    omega (arith, nodes_fit y.args.s, y.requires.0.long, k.auto.0, same_len_mid 0 (24 - 0) k.new.0 h.new.0 h.auto.0)
 
 lay-nodes-requires : tie.Need-lay-nodes-requires
 lay-nodes-requires c κs =
@@ -40,7 +40,7 @@ lay-nodes-requires c κs =
         long = same_len_mid 24 (536 - 24) w t.new.0 t.auto.0
             ∙ same_len_mid 0 (24 - 0) k.new.0 h.new.0 h.auto.0 ∙ k.auto.0 ∙ y.requires.0.long;
       },
-      nodes-start y.args.s y.requires.0.range k.new.0 (cleared y.args.s y.args.memory.now k.new.0 k.ensures y.requires.0.long)
+      nodes_start y.args.s y.requires.0.range k.new.0 (cleared y.args.s y.args.memory.now k.new.0 k.ensures y.requires.0.long)
           h.new.0 t.new.0 y.args.table.now y.requires.1 h.ensures t.ensures,
     )
 

@@ -6,17 +6,17 @@ use native.Mathlib.Omega.{arith}
 use lib.ListN.{length, set, replicate, length-set, length-replicate}
 use borrow.Author.Rules.{rules}
 use Rattle.settings.specs.declared.Settings.{Settings}
-use Rattle.layout.specs.Places.{linkAt, nodeSize}
+use Rattle.layout.specs.Places.{link_at, node_size}
 use Rattle.layout.proofs.Fits.{node-small}
-use Rattle.setup.proofs.Laws.{some_words, linked, linked-none, linked-turn, linked-all, link-in, link-next}
+use Rattle.setup.proofs.Laws.{some_words, linked, linked_none, linked_turn, linked_all, link_in_lem, link_next}
 use Rattle.setup.proofs.lay_node.Statement.{statement}
 use Rattle.setup.proofs.lay_node.Tie as tie
 
-long : (s : Settings) {d : List ℕ} → d ≡ replicate (nodeSize s) 0 → length d ≡ nodeSize s
-long s e = ap length e ∙ length-replicate (nodeSize s) 0
+long : (s : Settings) {d : List ℕ} → d ≡ replicate (node_size s) 0 → length d ≡ node_size s
+long s e = ap length e ∙ length-replicate (node_size s) 0
 
 abbrev invariant-loop : tie.invariant-loop
-invariant-loop node₀ s at₀ b₀ node at b = (1 ≤ b) × (b ≤ s.m) × (length node ≡ nodeSize s) × (node ≡ linked s (b - 1)) × (at < nodeSize s) × (at ≡ linkAt s b)
+invariant-loop node₀ s at₀ b₀ node at b = (1 ≤ b) × (b ≤ s.m) × (length node ≡ node_size s) × (node ≡ linked s (b - 1)) × (at < node_size s) × (at ≡ link_at s b)
 
 abbrev decreases-loop : tie.decreases-loop
 decreases-loop node₀ s at₀ b₀ node at b = s.m - b
@@ -34,8 +34,8 @@ loop-holds c =
       omega arith,
       omega (arith, y.requires.0.m.low),
       length-set x.node.now 0 _ ∙ long x.s y.requires.1,
-      linked-none x.s y.requires.0 x.node.now y.requires.1,
-      link-in x.s y.requires.0 1 c.link_at.result (omega arith) (omega (arith, y.requires.0.m.low)) c.link_at.ensures.is,
+      linked_none x.s y.requires.0 x.node.now y.requires.1,
+      link_in_lem x.s y.requires.0 1 c.link_at.result (omega arith) (omega (arith, y.requires.0.m.low)) c.link_at.ensures.is,
       c.link_at.ensures.is,
     )
 
@@ -62,13 +62,13 @@ loop-again c =
     let y = c.before.before.before.before.before.before in
     let x = y.args in
     let t = c.before.before.before.loop in
-    let e = link-next x.s y.requires.0 t.b t.at (omega arith) t.invariant.5 in (
+    let e = link_next x.s y.requires.0 t.b t.at (omega arith) t.invariant.5 in (
       omega arith,
       omega arith,
       length-set t.node t.at _ ∙ t.invariant.2,
       ap (λ (l : List ℕ). set l t.at (t.b + 1)) t.invariant.3
-          ∙ linked-turn x.s y.requires.0 t.b _ (omega arith) (omega arith) t.invariant.5,
-      link-in x.s y.requires.0 (t.b + 1) (t.at + x.s.b) (omega arith) (omega arith) e,
+          ∙ linked_turn x.s y.requires.0 t.b _ (omega arith) (omega arith) t.invariant.5,
+      link_in_lem x.s y.requires.0 (t.b + 1) (t.at + x.s.b) (omega arith) (omega arith) e,
       e,
     )
 
@@ -79,7 +79,7 @@ returns : tie.Need-returns invariant-loop decreases-loop
 returns c =
     let y = c.before.before.before.before.before in
     let t = c.before.before.loop in
-    t.invariant.3 ∙ linked-all y.args.s y.requires.0 (t.b - 1) (omega arith)
+    t.invariant.3 ∙ linked_all y.args.s y.requires.0 (t.b - 1) (omega arith)
 
 pub lay-node-spec : {M : Type 1} → statement M
 lay-node-spec =

@@ -7,22 +7,22 @@ use lib.Dec.{eqb}
 use borrow.Author.Rules.{rules}
 use borrow.Author.Tests.{not-true, not-false}
 use Rattle.words.specs.Words.{every}
-use Rattle.layout.specs.Places.{sendAt}
-use Rattle.queues.specs.Queue.{sendKind}
+use Rattle.layout.specs.Places.{send_at}
+use Rattle.queues.specs.Queue.{send_kind}
 use Rattle.sound.proofs.Given.{placed-send}
-use Rattle.sound.proofs.Tests.{every-none, turn-no, turn_more, turn-all}
-use Rattle.shapes.specs.Shape.{rightPost, rightSends}
+use Rattle.sound.proofs.Tests.{every_none, turn_no, turn_more, turn_all}
+use Rattle.shapes.specs.Shape.{right_post, right_sends}
 use Rattle.shapes.proofs.are_right_sends.Statement.{statement}
 use Rattle.shapes.proofs.are_right_sends.Tie as tie
 
 abbrev invariant-loop : tie.invariant-loop
-invariant-loop node s i kind k₀ k = (k ≤ 6) × (every k (λ k. rightPost (sendKind s) node (sendAt s k) s.m (eqb k i)) ≡ true)
+invariant-loop node s i kind k₀ k = (k ≤ 6) × (every k (λ k. right_post (send_kind s) node (send_at s k) s.m (eqb k i)) ≡ true)
 
 abbrev decreases-loop : tie.decreases-loop
 decreases-loop node s i kind k₀ k = 6 - k
 
 loop-holds : tie.Need-loop-init invariant-loop decreases-loop
-loop-holds c = (omega arith, every-none _)
+loop-holds c = (omega arith, every_none _)
 
 is-right-post-requires : tie.Need-is-right-post-requires invariant-loop decreases-loop
 is-right-post-requires c κs =
@@ -31,10 +31,10 @@ is-right-post-requires c κs =
     placed-send y.args.s y.args.node.now y.requires _ _ b.send-kind.ensures c.IsSend-at.ensures.fits
 
 returns : tie.Need-returns invariant-loop decreases-loop
-unfolding rightSends
+unfolding right_sends
 returns c =
     let t = c.before.before.before.before in
-    turn-no _ 6 t.loop.k (omega arith) c.before.is-right-post.result
+    turn_no _ 6 t.loop.k (omega arith) c.before.is-right-post.result
     (rw (← t.before.send-kind.ensures, ← c.before.before.IsSend-at.ensures.is) c.before.is-right-post.ensures)
     (not-true _ c.if1.true)
 
@@ -48,8 +48,8 @@ loop-again c =
     )
 
 returns-2 : tie.Need-returns-2 invariant-loop decreases-loop
-unfolding rightSends
-returns-2 c = turn-all _ 6 c.before.loop.k (omega arith) c.before.loop.invariant.1
+unfolding right_sends
+returns-2 c = turn_all _ 6 c.before.loop.k (omega arith) c.before.loop.invariant.1
 
 pub are-right-sends-spec : {M : Type 1} → statement M
 are-right-sends-spec =

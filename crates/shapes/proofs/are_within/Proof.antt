@@ -4,13 +4,13 @@ use Prim.Native.Nat.{ℕ, ◌-◌, ◌≤◌}
 use native.Mathlib.Omega.{arith}
 use borrow.Author.Rules.{rules}
 use Rattle.queues.specs.Queue.{run, contents}
-use Rattle.shapes.specs.Shape.{itemsWithin}
+use Rattle.shapes.specs.Shape.{items_within}
 use Rattle.shapes.proofs.Steps.{within_low, within-high, within_more, within_none}
 use Rattle.shapes.proofs.are_within.Statement.{statement}
 use Rattle.shapes.proofs.are_within.Tie as tie
 
 abbrev invariant-loop : tie.invariant-loop
-invariant-loop node k q least most count i₀ i = (i ≤ count) × (itemsWithin least most (contents k node q) ≡ itemsWithin least most (run k node q i (count - i)))
+invariant-loop node k q least most count i₀ i = (i ≤ count) × (items_within least most (contents k node q) ≡ items_within least most (run k node q i (count - i)))
 
 abbrev decreases-loop : tie.decreases-loop
 decreases-loop node k q least most count i₀ i = count - i
@@ -18,7 +18,7 @@ decreases-loop node k q least most count i₀ i = count - i
 loop-holds : tie.Need-loop-init invariant-loop decreases-loop
 loop-holds c =
     let x = c.before.before.args in
-    (omega arith, ap (λ (n : ℕ). itemsWithin x.least x.most (run x.k x.node.now x.q 0 n)) (omega (arith, c.items_of.ensures)))
+    (omega arith, ap (λ (n : ℕ). items_within x.least x.most (run x.k x.node.now x.q 0 n)) (omega (arith, c.items_of.ensures)))
 
 returns : tie.Need-returns invariant-loop decreases-loop
 returns c =

@@ -5,7 +5,7 @@ use native.Mathlib.Omega.{arith}
 use lib.Dec.{eqb}
 use borrow.Author.Rules.{rules}
 use Rattle.shapes.specs.Shape.{zeroes}
-use Rattle.shapes.proofs.Clear.{zero-none, zero_more}
+use Rattle.shapes.proofs.Clear.{zero_none, zero_more}
 use Rattle.shapes.proofs.are_zero.Statement.{statement}
 use Rattle.shapes.proofs.are_zero.Tie as tie
 
@@ -16,7 +16,7 @@ abbrev decreases-loop : tie.decreases-loop
 decreases-loop node a e bits₀ i₀ bits i = e - i
 
 loop-holds : tie.Need-loop-init invariant-loop decreases-loop
-loop-holds c = (omega arith, omega arith, zero-none _ _)
+loop-holds c = (omega arith, omega arith, zero_none _ _)
 
 loop-again : tie.Need-loop-preserved invariant-loop decreases-loop
 loop-again c = let t = c.before.before.loop in (omega arith, omega arith, zero_more _ _ t.i t.bits (omega arith) t.invariant.2)

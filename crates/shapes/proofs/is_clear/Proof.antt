@@ -3,8 +3,8 @@ use mathlib.Core.Path.{sym, ◌∙◌}
 use native.Mathlib.Omega.{arith}
 use borrow.Author.Rules.{rules}
 use borrow.Author.Tests.{not-true, not-false}
-use Rattle.sound.proofs.Tests.{no-first, yes-first}
-use Rattle.shapes.proofs.Clear.{clear_none, clear-straight, clear-round}
+use Rattle.sound.proofs.Tests.{no_first, yes_first}
+use Rattle.shapes.proofs.Clear.{clear_none, clear_straight, clear_round}
 use Rattle.shapes.proofs.is_clear.Statement.{statement}
 use Rattle.shapes.proofs.is_clear.Tie as tie
 
@@ -16,19 +16,19 @@ returns c =
 returns-2 : tie.Need-returns-2
 returns-2 c =
     let b = c.before.before.before.before.before.before.before in
-    c.are-zero2.ensures ∙ clear-round _ _ _ _ _ b.requires.1.0 b.requires.1.1 (omega arith)
+    c.are-zero2.ensures ∙ clear_round _ _ _ _ _ b.requires.1.0 b.requires.1.1 (omega arith)
 
 returns-3 : tie.Need-returns-3
 returns-3 c =
     let b = c.before.before.before.before.before.before.before.before in
-    no-first _ _ (sym c.before.are-zero3.ensures ∙ not-true _ c.if3.true)
-    ∙ clear-straight _ _ _ _ _ b.requires.1.0 b.requires.1.1 (omega arith)
+    no_first _ _ (sym c.before.are-zero3.ensures ∙ not-true _ c.if3.true)
+    ∙ clear_straight _ _ _ _ _ b.requires.1.0 b.requires.1.1 (omega arith)
 
 returns-4 : tie.Need-returns-4
 returns-4 c =
     let b = c.before.before.before.before.before.before.before.before.before in
-    yes-first _ _ _ (sym c.before.before.are-zero3.ensures ∙ not-false _ c.before.if3.false) c.are-zero4.ensures
-    ∙ clear-straight _ _ _ _ _ b.requires.1.0 b.requires.1.1 (omega arith)
+    yes_first _ _ _ (sym c.before.before.are-zero3.ensures ∙ not-false _ c.before.if3.false) c.are-zero4.ensures
+    ∙ clear_straight _ _ _ _ _ b.requires.1.0 b.requires.1.1 (omega arith)
 
 pub is-clear-spec : {M : Type 1} → statement M
 is-clear-spec =

@@ -6,21 +6,21 @@ use lib.Dec.{eqb}
 use lib.ListN.{get_or}
 use borrow.Author.Rules.{rules}
 use borrow.Author.Tests.{not-true, not-false}
-use Rattle.sound.proofs.Shapes.{shape-queue}
-use Rattle.shapes.proofs.Steps.{seat-shape, seat-empty, seat-unbound, seat-gap, seat-high, seat-flag}
+use Rattle.sound.proofs.Shapes.{shape_queue}
+use Rattle.shapes.proofs.Steps.{seat_shape, seat_empty, seat-unbound, seat-gap, seat-high, seat-flag}
 use Rattle.shapes.proofs.is_right_seat.Statement.{statement}
 use Rattle.shapes.proofs.is_right_seat.Tie as tie
 
 returns : tie.Need-returns
-returns c = seat-shape _ _ _ _ _ (sym c.before.is-in-shape.ensures ∙ not-true _ c.if1.true)
+returns c = seat_shape _ _ _ _ _ (sym c.before.is-in-shape.ensures ∙ not-true _ c.if1.true)
 
 items-of-requires : tie.Need-items-of-requires
-items-of-requires c κs = shape-queue _ _ _ c.before.before.before.requires.0 (sym c.before.is-in-shape.ensures ∙ not-false _ c.if1.false)
+items-of-requires c κs = shape_queue _ _ _ c.before.before.before.requires.0 (sym c.before.is-in-shape.ensures ∙ not-false _ c.if1.false)
 
 returns-2 : tie.Need-returns-2
 returns-2 c =
     let b = c.before.before.before in
-    seat-empty _ _ _ _ _ (sym b.before.is-in-shape.ensures ∙ not-false _ b.if1.false) (sym c.before.before.items_of.ensures ∙ c.before.if2.true)
+    seat_empty _ _ _ _ _ (sym b.before.is-in-shape.ensures ∙ not-false _ b.if1.false) (sym c.before.before.items_of.ensures ∙ c.before.if2.true)
 
 returns-3 : tie.Need-returns-3
 returns-3 c =
@@ -31,7 +31,7 @@ returns-3 c =
 item-requires : tie.Need-item-requires
 item-requires c κs =
     let b = c.before.before.before in
-    (shape-queue _ _ _ b.before.before.before.requires.0 (sym b.before.is-in-shape.ensures ∙ not-false _ b.if1.false), omega arith)
+    (shape_queue _ _ _ b.before.before.before.requires.0 (sym b.before.is-in-shape.ensures ∙ not-false _ b.if1.false), omega arith)
 
 returns-4 : tie.Need-returns-4
 returns-4 c =
@@ -42,7 +42,7 @@ returns-4 c =
 are-within-requires : tie.Need-are-within-requires
 are-within-requires c κs =
     let b = c.before.before.before.before.before in
-    shape-queue _ _ _ b.before.before.before.requires.0 (sym b.before.is-in-shape.ensures ∙ not-false _ b.if1.false)
+    shape_queue _ _ _ b.before.before.before.requires.0 (sym b.before.is-in-shape.ensures ∙ not-false _ b.if1.false)
 
 returns-5 : tie.Need-returns-5
 returns-5 c =
@@ -53,7 +53,7 @@ returns-5 c =
 gap-flag-requires : tie.Need-gap-flag-requires
 gap-flag-requires c κs =
     let b = c.before.before.before.before.before.before.before.before in
-    shape-queue _ _ _ b.before.before.before.requires.0 (sym b.before.is-in-shape.ensures ∙ not-false _ b.if1.false)
+    shape_queue _ _ _ b.before.before.before.requires.0 (sym b.before.is-in-shape.ensures ∙ not-false _ b.if1.false)
 
 returns-6 : tie.Need-returns-6
 returns-6 c =

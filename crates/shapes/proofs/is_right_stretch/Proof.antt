@@ -2,22 +2,22 @@
 use mathlib.Core.Path.{sym, ◌∙◌}
 use borrow.Author.Rules.{rules}
 use borrow.Author.Tests.{not-true, not-false}
-use Rattle.sound.proofs.Tests.{no-first, yes-first}
-use Rattle.shapes.specs.Shape.{rightStretch}
+use Rattle.sound.proofs.Tests.{no_first, yes_first}
+use Rattle.shapes.specs.Shape.{right_stretch}
 use Rattle.shapes.proofs.is_right_stretch.Statement.{statement}
 use Rattle.shapes.proofs.is_right_stretch.Tie as tie
 
 returns : tie.Need-returns
-unfolding rightStretch
-returns c = no-first _ _ (sym c.before.are-right-sends.ensures ∙ not-true _ c.if1.true)
+unfolding right_stretch
+returns c = no_first _ _ (sym c.before.are-right-sends.ensures ∙ not-true _ c.if1.true)
 
 returns-2 : tie.Need-returns-2
-unfolding rightStretch
-returns-2 c = yes-first _ _ _ (sym c.before.before.before.are-right-sends.ensures ∙ not-false _ c.before.before.if1.false) (no-first _ _ (sym c.before.are-right-acks.ensures ∙ not-true _ c.if2.true))
+unfolding right_stretch
+returns-2 c = yes_first _ _ _ (sym c.before.before.before.are-right-sends.ensures ∙ not-false _ c.before.before.if1.false) (no_first _ _ (sym c.before.are-right-acks.ensures ∙ not-true _ c.if2.true))
 
 returns-3 : tie.Need-returns-3
-unfolding rightStretch
-returns-3 c = yes-first _ _ _ (sym c.before.before.before.before.are-right-sends.ensures ∙ not-false _ c.before.before.before.if1.false) (yes-first _ _ _ (sym c.before.before.are-right-acks.ensures ∙ not-false _ c.before.if2.false) c.are-right-seats.ensures)
+unfolding right_stretch
+returns-3 c = yes_first _ _ _ (sym c.before.before.before.before.are-right-sends.ensures ∙ not-false _ c.before.before.before.if1.false) (yes_first _ _ _ (sym c.before.before.are-right-acks.ensures ∙ not-false _ c.before.if2.false) c.are-right-seats.ensures)
 
 pub is-right-stretch-spec : {M : Type 1} → statement M
 is-right-stretch-spec =

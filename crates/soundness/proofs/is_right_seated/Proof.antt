@@ -1,5 +1,5 @@
 -- `soundness::is_right_seated` meets its contract. Assumes nothing.
-use Rattle.soundness.proofs.Rules.{seated-queues, queued, seated-standing, looked, seated-nodes, lettered, seated-copies}
+use Rattle.soundness.proofs.Rules.{seated-queues, queued, seated-standing, looked, seated-nodes, lettered, seated_copies}
 use borrow.Author.Tests.{not-true, not-false}
 use mathlib.Core.Path.{sym, ◌∙◌}
 use Rattle.soundness.proofs.is_right_seated.Statement.{statement}
@@ -27,7 +27,7 @@ are-right-copies-requires : tie.Need-are-right-copies-requires
 are-right-copies-requires c κs = lettered c.before.before.before.before.before.before.before.args.s c.before.before.before.before.before.before.before.args.memory.now (sym c.before.before.before.before.before.are-right-queues.ensures ∙ not-false _ c.before.before.before.before.if1.false) (sym c.before.before.before.are-standing.ensures ∙ not-false _ c.before.before.if2.false) (sym c.before.are-right-nodes.ensures ∙ not-false _ c.if3.false) c.before.before.before.before.before.before.before.requires.0 c.before.before.before.before.before.before.before.requires.1.0
 
 returns-4 : tie.Need-returns-4
-returns-4 c = seated-copies c.before.before.before.before.before.before.before.before.args.s c.before.before.before.before.before.before.before.before.args.memory.now (sym c.before.before.before.before.before.before.are-right-queues.ensures ∙ not-false _ c.before.before.before.before.before.if1.false) (sym c.before.before.before.before.are-standing.ensures ∙ not-false _ c.before.before.before.if2.false) (sym c.before.before.are-right-nodes.ensures ∙ not-false _ c.before.if3.false) _ c.are-right-copies.ensures
+returns-4 c = seated_copies c.before.before.before.before.before.before.before.before.args.s c.before.before.before.before.before.before.before.before.args.memory.now (sym c.before.before.before.before.before.before.are-right-queues.ensures ∙ not-false _ c.before.before.before.before.before.if1.false) (sym c.before.before.before.before.are-standing.ensures ∙ not-false _ c.before.before.before.if2.false) (sym c.before.before.are-right-nodes.ensures ∙ not-false _ c.before.if3.false) _ c.are-right-copies.ensures
 
 pub is-right-seated-spec : {M : Type 1} → statement M
 is-right-seated-spec =

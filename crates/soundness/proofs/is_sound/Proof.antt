@@ -1,13 +1,13 @@
 -- `soundness::is_sound` meets its contract. Assumes nothing.
 use Rattle.soundness.proofs.Rules.{made_range}
-use Rattle.soundness.proofs.Rules.{sound-short, sound-refused, sound-range, sound-size, sound-turn, sound-rest}
+use Rattle.soundness.proofs.Rules.{sound_short, sound_refused, sound-range, sound-size, sound-turn, sound-rest}
 use mathlib.Core.Path.{sym, ◌∙◌}
 use borrow.Author.Rules.{rules}
 use Rattle.soundness.proofs.is_sound.Statement.{statement}
 use Rattle.soundness.proofs.is_sound.Tie as tie
 
 returns : tie.Need-returns
-returns c = sound-short c.before.before.args.memory.now c.if1.true
+returns c = sound_short c.before.before.args.memory.now c.if1.true
 
 shared-slice-read-new : tie.Need-shared-slice-read-new
 shared-slice-read-new c = search rules
@@ -34,7 +34,7 @@ enum_told : tie.Need-enum-told
 enum_told c = search rules
 
 returns-2 : tie.Need-returns-2
-returns-2 c = sound-refused c.before.before.before.before.before.before.before.before.before.before.args.memory.now (sym c.before.before.new.ensures ∙ c.enum_told.given.1)
+returns-2 c = sound_refused c.before.before.before.before.before.before.before.before.before.before.args.memory.now (sym c.before.before.new.ensures ∙ c.enum_told.given.1)
 
 memory-size-requires : tie.Need-memory-size-requires
 memory-size-requires c κs = made_range c.before.before.before.before.before.before.before.before.before.before.before.args.memory.now _ (sym c.before.before.before.new.ensures ∙ c.before.made.given.1)

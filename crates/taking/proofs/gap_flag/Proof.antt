@@ -1,6 +1,6 @@
 -- `taking::gap_flag` meets its contract: the flag from place i on is the flag. Assumes nothing.
-use Rattle.taking.proofs.Turns.{flag-gap, flag-live, flag-none}
-use Rattle.queues.specs.Items.{gapFlag}
+use Rattle.taking.proofs.Turns.{flag-gap, flag-live, flag_none}
+use Rattle.queues.specs.Items.{gap_flag}
 use Rattle.queues.specs.Queue as queue
 use Rattle.queues.specs.Queue.{run, contents}
 use Prim.Native.Nat.{◌-◌, ◌≤◌}
@@ -11,7 +11,7 @@ use Rattle.taking.proofs.gap_flag.Statement.{statement}
 use Rattle.taking.proofs.gap_flag.Tie as tie
 
 abbrev invariant-loop : tie.invariant-loop
-invariant-loop node k q items i₀ i = (items ≡ queue.items k node q) × (i ≤ items) × (gapFlag (run k node q i (items - i)) ≡ gapFlag (contents k node q))
+invariant-loop node k q items i₀ i = (items ≡ queue.items k node q) × (i ≤ items) × (gap_flag (run k node q i (items - i)) ≡ gap_flag (contents k node q))
 
 abbrev decreases-loop : tie.decreases-loop
 decreases-loop node k q items i₀ i = items - i
@@ -19,7 +19,7 @@ decreases-loop node k q items i₀ i = items - i
 loop-holds : tie.Need-loop-init invariant-loop decreases-loop
 loop-holds c =
     let x = c.before.before.args in
-    (c.items_of.ensures, omega arith, ap (λ n. gapFlag (run x.k x.node.now x.q 0 n)) (omega (arith, c.items_of.ensures)))
+    (c.items_of.ensures, omega arith, ap (λ n. gap_flag (run x.k x.node.now x.q 0 n)) (omega (arith, c.items_of.ensures)))
 
 returns : tie.Need-returns invariant-loop decreases-loop
 returns c =
@@ -37,7 +37,7 @@ returns-2 : tie.Need-returns-2 invariant-loop decreases-loop
 returns-2 c =
     let x = c.before.before.before.before.args in
     let o = c.before.loop in
-    sym (flag-none x.k x.node.now x.q o.i c.before.before.items_of.result (omega arith)) ∙ o.invariant.2
+    sym (flag_none x.k x.node.now x.q o.i c.before.before.items_of.result (omega arith)) ∙ o.invariant.2
 
 pub gap-flag-spec : {M : Type 1} → statement M
 gap-flag-spec =

@@ -1,11 +1,11 @@
 -- `taking::is_from` meets its contract. Assumes nothing.
-use Rattle.taking.proofs.Turns.{from-any, from_one}
+use Rattle.taking.proofs.Turns.{from_any, from_one}
 use borrow.Author.Rules.{rules}
 use Rattle.taking.proofs.is_from.Statement.{statement}
 use Rattle.taking.proofs.is_from.Tie as tie
 
 returns : tie.Need-returns
-returns c = let x = c.before.before.args in from-any x.s x.node.now x.source x.b c.if1.true
+returns c = let x = c.before.before.args in from_any x.s x.node.now x.source x.b c.if1.true
 
 returns-2 : tie.Need-returns-2
 returns-2 c =

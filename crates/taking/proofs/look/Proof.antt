@@ -28,12 +28,12 @@ is-from-requires c κs =
 returns-3 : tie.Need-returns-3
 returns-3 c =
     let x = c.before.before.before.before.before.before.before.before.args in
-    seen_here x.s x.node.now x.q x.source x.i (omega (arith, c.before.before.before.before.before.items_of.ensures)) (rw c.before.before.before.before.before.before.task-kind.ensures at c.before.before.before.item.ensures) c.before.before.if2.false (sym c.before.is-from.ensures ∙ c.if3.true)
+    seen_here x.s x.node.now x.q x.source x.i (omega (arith, c.before.before.before.before.before.items_of.ensures)) (rw c.before.before.before.before.before.before.task-kind.ensures at c.before.before.before.item.ensures) c.before.before.if2.false (sym c.before.is_from_lem.ensures ∙ c.if3.true)
 
 returns-4 : tie.Need-returns-4
 returns-4 c =
     let x = c.before.before.before.before.before.before.before.before.args in
-    seen_other x.s x.node.now x.q x.source x.i (omega (arith, c.before.before.before.before.before.items_of.ensures)) (rw c.before.before.before.before.before.before.task-kind.ensures at c.before.before.before.item.ensures) c.before.before.if2.false (sym c.before.is-from.ensures ∙ c.if3.false)
+    seen_other x.s x.node.now x.q x.source x.i (omega (arith, c.before.before.before.before.before.items_of.ensures)) (rw c.before.before.before.before.before.before.task-kind.ensures at c.before.before.before.item.ensures) c.before.before.if2.false (sym c.before.is_from_lem.ensures ∙ c.if3.false)
 
 pub look_spec : {M : Type 1} → statement M
 look_spec =

@@ -1,5 +1,5 @@
 -- `taking::take` meets its contract, by whether the place is the first. Assumes nothing.
-use Rattle.taking.proofs.Turns.{out_first, out-further}
+use Rattle.taking.proofs.Turns.{out_first, out_further}
 use Rattle.queues.proofs.Views.{queue-dropped}
 use native.Mathlib.Omega.{arith}
 use mathlib.Core.Path.{◌∙◌}
@@ -20,7 +20,7 @@ returns c =
 returns-2 : tie.Need-returns-2
 returns-2 c =
     let x = c.before.before.before.before.args in
-    rw c.slot_at.ensures.is (out-further x.k x.node.now x.q x.i (λ e. omega arith))
+    rw c.slot_at.ensures.is (out_further x.k x.node.now x.q x.i (λ e. omega arith))
 
 pub take_spec : {M : Type 1} → statement M
 take_spec =

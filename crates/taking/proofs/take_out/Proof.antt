@@ -1,5 +1,5 @@
 -- `taking::take_out` meets its contract. Assumes nothing.
-use Rattle.queues.specs.Queue.{taskKind}
+use Rattle.queues.specs.Queue.{task_kind}
 use Rattle.taking.proofs.Turns.{taken_is}
 use Rattle.taking.proofs.Taken.{queue-out}
 use borrow.Author.Rules.{rules}
@@ -12,7 +12,7 @@ take-requires c κs = rw c.before.task-kind.ensures c.before.before.before.requi
 gap-flag-requires : tie.Need-gap-flag-requires
 gap-flag-requires c κs =
     let x = c.before.before.before.before.before.before.before.args in
-    rw (c.before.before.before.take.ensures, c.before.before.before.before.before.task-kind.ensures) (queue-out (taskKind x.s) x.node.now x.q x.i c.before.before.before.before.before.before.before.requires)
+    rw (c.before.before.before.take.ensures, c.before.before.before.before.before.task-kind.ensures) (queue-out (task_kind x.s) x.node.now x.q x.i c.before.before.before.before.before.before.before.requires)
 
 returns : tie.Need-returns
 returns c =

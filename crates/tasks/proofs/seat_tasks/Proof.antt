@@ -2,7 +2,7 @@
 use mathlib.Core.Path.{sym, ◌∙◌}
 use mathlib.Core.Bool.{false≢true}
 use borrow.Author.Tests.{not-true, not-false}
-use Rattle.tasks.proofs.Laws.{wrong_first, right-rest}
+use Rattle.tasks.proofs.Laws.{wrong_first, right_rest}
 use borrow.Author.Rules.{rules}
 use Rattle.tasks.proofs.seat_tasks.Statement.{statement}
 use Rattle.tasks.proofs.seat_tasks.Tie as tie
@@ -14,7 +14,7 @@ seat-each-requires : tie.Need-seat-each-requires
 seat-each-requires c κs = let y = c.before.before.before.before in (y.requires.0, (sym c.before.before.holds-none.ensures ∙ not-false _ c.before.if1.false, y.requires.1))
 
 returns-2 : tie.Need-returns-2
-returns-2 c = let y = c.before.before.before.before.before in (right-rest _ y.requires.0 (sym c.before.before.before.holds-none.ensures ∙ not-false _ c.before.before.if1.false) _ c.seat-each.ensures.0, c.seat-each.ensures.1)
+returns-2 c = let y = c.before.before.before.before.before in (right_rest _ y.requires.0 (sym c.before.before.before.holds-none.ensures ∙ not-false _ c.before.before.if1.false) _ c.seat-each.ensures.0, c.seat-each.ensures.1)
 
 pub seat-tasks-spec : {M : Type 1} → statement M
 seat-tasks-spec =

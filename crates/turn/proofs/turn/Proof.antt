@@ -2,12 +2,12 @@
 use mathlib.Core.Path.{sym, ◌∙◌}
 use borrow.Author.Tests.{not-true, not-false}
 use borrow.Author.Rules.{rules}
-use Rattle.turn.proofs.Outcomes.{not_sound}
+use Rattle.turn.proofs.Outcomes.{not_sound_lem}
 use Rattle.turn.proofs.turn.Statement.{statement}
 use Rattle.turn.proofs.turn.Tie as tie
 
 returns : tie.Need-returns
-returns c = let x = c.before.before.before.before in not_sound x.args.memory.now (sym c.before.is-sound.ensures ∙ not-true _ c.if1.true)
+returns c = let x = c.before.before.before.before in not_sound_lem x.args.memory.now (sym c.before.is-sound.ensures ∙ not-true _ c.if1.true)
 
 turn-sound-requires : tie.Need-turn-sound-requires
 turn-sound-requires c κs = sym c.before.before.is-sound.ensures ∙ not-false _ c.before.if1.false

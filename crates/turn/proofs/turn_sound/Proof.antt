@@ -19,13 +19,13 @@ position-of-requires : tie.Need-position-of-requires
 position-of-requires c κs = let x = c.before.before.before.before.before in (sound-long x.args.memory.now x.requires, sound-turn x.args.memory.now x.requires)
 
 go-requires : tie.Need-go-requires
-go-requires c κs = let x = c.before.before.before.before.before.before.before in sound-stands x.args.memory.now x.requires c.before.before.before.before.settings-in.ensures refl c.before.position-of.ensures
+go-requires c κs = let x = c.before.before.before.before.before.before.before in sound-stands x.args.memory.now x.requires c.before.before.before.before.settings-in.ensures refl c.before.position_of_lem.ensures
 
 keep-requires : tie.Need-keep-requires
 keep-requires c κs = let x = c.before.before.before.before.before.before.before.before.before.before.before.before in (omega (arith, sound-long x.args.memory.now x.requires, c.before.before.before.before.go.auto.0), sound-turn x.args.memory.now x.requires)
 
 returns : tie.Need-returns
-returns c = let x = c.before.before.before.before.before.before.before.before.before.before.before.before.before.before.before.before in sound-turned x.args.memory.now x.requires c.before.before.before.before.before.before.before.before.before.before.before.before.before.settings-in.ensures refl c.before.before.before.before.before.before.before.before.before.before.position-of.ensures c.before.before.before.before.before.before.before.before.go.ensures c.before.before.before.keep.ensures c.answer-of.ensures
+returns c = let x = c.before.before.before.before.before.before.before.before.before.before.before.before.before.before.before.before in sound-turned x.args.memory.now x.requires c.before.before.before.before.before.before.before.before.before.before.before.before.before.settings-in.ensures refl c.before.before.before.before.before.before.before.before.before.before.position_of_lem.ensures c.before.before.before.before.before.before.before.before.go.ensures c.before.before.before.keep.ensures c.answer-of.ensures
 
 pub turn-sound-spec : {M : Type 1} → statement M
 turn-sound-spec =

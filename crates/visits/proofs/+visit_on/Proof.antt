@@ -3,7 +3,7 @@ use native.Mathlib.Omega.{arith}
 use Prim.Native.Nat.{ℕ, ◌<◌}
 use borrow.Fn.Kinds.{In}
 use borrow.Fn.PlainCycle.{Measures, is, falls, and}
-use Rattle.visits.proofs.Walks.{walk_end, walk_none, walk-above, walk-marked, walk-next, link_fits}
+use Rattle.visits.proofs.Walks.{walk_end, walk_none, walk_above, walk_marked, walk_next, link_fits}
 use Rattle.visits.proofs.visit_on.Reads as own
 use Rattle.visits.proofs.visit_on.Kinds as kinds
 use Rattle.visits.proofs.+visit_on.Lts-visit_on as lts
@@ -30,13 +30,13 @@ module _ (t : ℕ) where
   returns-2 c = let x = c.before.before.args in walk_none x.node.now.now x.before x.width x.m x.owed x.b x.marks.now c.before.if1.false c.if2.true
 
   returns-3 : lts.Need-returns-3 calls Pre own.Post
-  returns-3 c = let x = c.before.before.before.args in walk-above x.node.now.now x.before x.width x.m x.owed x.b x.marks.now c.before.before.if1.false c.before.if2.false c.if3.true
+  returns-3 c = let x = c.before.before.before.args in walk_above x.node.now.now x.before x.width x.m x.owed x.b x.marks.now c.before.before.if1.false c.before.if2.false c.if3.true
 
   element-copy-out-if4 : lts.Need-element-copy-out-if4 calls Pre own.Post
   element-copy-out-if4 c = let g = c.before.before.before.requires.1.0.few in omega arith
 
   returns-4 : lts.Need-returns-4 calls Pre own.Post
-  returns-4 c = let x = c.before.before.before.before.before.args in walk-marked x.node.now.now x.before x.width x.m x.owed x.b x.marks.now c.before.before.before.before.if1.false c.before.before.before.if2.false c.if4.true
+  returns-4 c = let x = c.before.before.before.before.before.args in walk_marked x.node.now.now x.before x.width x.m x.owed x.b x.marks.now c.before.before.before.before.if1.false c.before.before.before.if2.false c.if4.true
 
   element-write-marks : lts.Need-element-write-marks calls Pre own.Post
   element-write-marks c = let g = c.before.before.before.before.before.requires.1.0.few in omega arith
@@ -60,7 +60,7 @@ module _ (t : ℕ) where
   visit-on-requires c κs = let y = c.before.before.before.before.before.before.before in (omega arith, (y.requires.1.0, omega (arith, y.requires.1.1)))
 
   returns-5 : lts.Need-returns-5 calls Pre own.Post
-  returns-5 c = let x = c.before.before.before.before.before.before.before.before.args in walk-next x.node.now.now x.before x.width x.m x.owed x.b x.marks.now c.before.before.before.before.before.before.before.if1.false c.before.before.before.before.before.before.if2.false (omega arith) c.before.before.before.if4.false _ _ c.visit-on.ensures
+  returns-5 c = let x = c.before.before.before.before.before.before.before.before.args in walk_next x.node.now.now x.before x.width x.m x.owed x.b x.marks.now c.before.before.before.before.before.before.before.if1.false c.before.before.before.before.before.before.if2.false (omega arith) c.before.before.before.if4.false _ _ c.visit-on.ensures
 
 pub +visit-on-spec : {M : Type 1} → statement M
 +visit-on-spec = close μ (λ t. lts.spec (calls t) (Pre t) own.Post (add-result t) (returns t) (returns-2 t) (returns-3 t) (element-copy-out-if4 t) (returns-4 t) (element-write-marks t) (mul_next t) (add-next t) (mul-next-2 t) (index-1-next t) (sub-visit-on t) (visit-on-requires t) (returns-5 t))

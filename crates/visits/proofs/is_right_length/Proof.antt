@@ -3,7 +3,7 @@ use mathlib.Core.Path.{ap, ◌∙◌}
 use native.Mathlib.Omega.{arith}
 use borrow.Author.Rules.{rules}
 use Rattle.blocks.specs.Chain as chain
-use Rattle.visits.proofs.Read.{carried-small, told-short, head-lies, told_is, length-low, length_high, length-is}
+use Rattle.visits.proofs.Read.{carried-small, told_short, head_lies, told_is, length-low, length_high, length_is}
 use Rattle.visits.proofs.is_right_length.Statement.{statement}
 use Rattle.visits.proofs.is_right_length.Tie as tie
 
@@ -14,10 +14,10 @@ mul-if1 : tie.Need-overflow-mul-if1
 mul-if1 c = let y = c.before.before in let x = y.args in omega (arith, carried-small x.s x.node.now x.b x.count y.requires)
 
 returns : tie.Need-returns
-returns c = let y = c.before.before.before in let x = y.args in told-short x.s x.node.now x.b x.count y.requires c.if1.true
+returns c = let y = c.before.before.before in let x = y.args in told_short x.s x.node.now x.b x.count y.requires c.if1.true
 
 told-length-requires : tie.Need-told-length-requires
-told-length-requires c κs = let y = c.before.before.before in let x = y.args in head-lies x.s x.node.now x.b x.count y.requires c.if1.false
+told-length-requires c κs = let y = c.before.before.before in let x = y.args in head_lies x.s x.node.now x.b x.count y.requires c.if1.false
 
 cast-n : tie.Need-overflow-cast-n
 cast-n c = search rules
@@ -33,7 +33,7 @@ needs-of-requires c κs = search rules
 
 returns-4 : tie.Need-returns-4
 returns-4 c = let y = c.before.before.before.before.before.before.before in let x = y.args in let e = c.before.before.before.told-length.ensures ∙ told_is x.s x.node.now x.b x.count y.requires c.before.before.before.before.if1.false in
-    length-is x.s x.node.now x.b x.count y.requires _ (omega arith) (omega arith) (c.needs-of.ensures ∙ ap (chain.needs x.s) e)
+    length_is x.s x.node.now x.b x.count y.requires _ (omega arith) (omega arith) (c.needs-of.ensures ∙ ap (chain.needs x.s) e)
 
 pub is-right-length-spec : {M : Type 1} → statement M
 is-right-length-spec =

@@ -5,7 +5,7 @@ use Prim.Native.Nat.{◌≤◌, ◌-◌}
 use native.Mathlib.Omega.{arith}
 use lib.ListN.{length, take, drop, length-set}
 use borrow.Author.Rules.{rules}
-use Rattle.words.proofs.Parts.{laid_more, laid-all}
+use Rattle.words.proofs.Parts.{laid_more, laid_all}
 use Rattle.words.proofs.copy.Statement.{statement}
 use Rattle.words.proofs.copy.Tie as tie
 
@@ -49,7 +49,7 @@ returns : tie.Need-returns invariant-loop decreases-loop
 returns c =
     let l = c.before.loop in
     let a = c.before.before.args in
-    l.invariant.2 ∙ laid-all l.i a.from.now a.to.now (omega arith) (omega arith)
+    l.invariant.2 ∙ laid_all l.i a.from.now a.to.now (omega arith) (omega arith)
 
 pub copy_spec : {M : Type 1} → statement M
 copy_spec =
