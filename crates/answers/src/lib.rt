@@ -1,4 +1,6 @@
 // What a call answers, as the program and C see it.
+#![tactic(auto)]
+
 ghost use Rattle.std.specs.Prelude.{◌≡◌};
 ghost use Rattle.answers.specs.Numbers.{bare as bareAnswer};
 

@@ -1,4 +1,6 @@
 // Blocks, links and the free list of a node's stretch.
+#![tactic(auto)]
+
 ghost use Rattle.std.specs.Prelude.{◌≡◌, ◌-◌, ◌≤◌, get_or, set};
 ghost use Rattle.settings.specs.declared.Settings.{Settings};
 ghost use Rattle.settings.specs.Range.{InRange};

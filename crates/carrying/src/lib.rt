@@ -1,4 +1,6 @@
 // The two steps of a postman's turn: what was acknowledged is given back, and letters are carried.
+#![tactic(auto)]
+
 ghost use Rattle.std.specs.Prelude.{◌≡◌, ◌-◌, ◌<◌, length};
 ghost use Rattle.layout.specs.Places.{nodes, node};
 ghost use Rattle.queues.specs.Queue.{items};

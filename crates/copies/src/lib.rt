@@ -1,4 +1,6 @@
 // The letter that a postman holds in stage 2, compared with the letter that it copies.
+#![tactic(auto)]
+
 ghost use Rattle.std.specs.Prelude.{◌≡◌, ◌+◌, ◌-◌, ◌≤◌, ◌<◌, length};
 ghost use Rattle.words.specs.Words.{every, alike, part};
 ghost use Rattle.layout.specs.Places.{nodes, block_at};

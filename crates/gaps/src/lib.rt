@@ -1,4 +1,6 @@
 // Closing the gaps of a task queue, and the append that closes them first.
+#![tactic(auto)]
+
 ghost use Rattle.std.specs.Prelude.{◌≡◌, replicate};
 ghost use Rattle.queues.specs.Queue.{Queue, contents, task_kind};
 ghost use Rattle.queues.specs.Items.{live};

@@ -1,4 +1,6 @@
 // Where things stand in the memory: a function for each place that the calls compute.
+#![tactic(auto)]
+
 ghost use Rattle.std.specs.Prelude.{◌≡◌, ◌+◌, ◌≤◌, ◌<◌, length};
 ghost use Rattle.words.specs.Words.{part};
 ghost use Rattle.settings.specs.Range.{InRange};

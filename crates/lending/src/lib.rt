@@ -1,4 +1,6 @@
 // A node's stretch of the machine, lent to the functions on queues, blocks and letters.
+#![tactic(auto)]
+
 ghost use Rattle.std.specs.Prelude.{◌≡◌, ◌<◌, get_or};
 ghost use Rattle.layout.specs.Places.{node, with_node, room_at};
 ghost use Rattle.layout.specs.Numbers.{header_words};

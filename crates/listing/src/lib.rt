@@ -1,4 +1,6 @@
 // List: the call that shows every letter on its way.
+#![tactic(auto)]
+
 ghost use Rattle.std.specs.Prelude.{◌≡◌, true, [], ◌∷◌, ◌*◌, ◌+◌, ◌≤◌, ◌<◌, length};
 ghost use Rattle.words.specs.Count.{sum};
 ghost use Rattle.layout.specs.Places.{nodes, task_ids, task_queues};

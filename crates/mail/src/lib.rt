@@ -1,4 +1,6 @@
 // The door: the five calls, as include/mail.h declares them for C.
+#![tactic(auto)]
+
 ghost use Rattle.mail.specs.Door.{SetsUp, Sends, Receives, Turns, Lists};
 
 use answers::Answer;

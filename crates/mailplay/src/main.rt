@@ -1,4 +1,6 @@
 // Plays a script of calls from standard input and prints a line for each call.
+#![tactic(auto)]
+
 ghost use Rattle.std.specs.Prelude.{◌≡◌, ◌≤◌, ◌<◌, length};
 ghost use Rattle.mailplay.specs.Held.{Fits};
 

@@ -1,4 +1,6 @@
 // The program: plays records of 8 bytes from standard input and prints a line for each.
+#![tactic(auto)]
+
 ghost use Rattle.std.specs.Prelude.{◌≡◌, ◌≤◌, ◌<◌, length, get_or};
 ghost use Rattle.mailrun.specs.Program.{word_from, sent, received, played};
 

@@ -1,4 +1,6 @@
 // The places of a node: the letters at each of them, and each block in exactly one place.
+#![tactic(auto)]
+
 ghost use Rattle.std.specs.Prelude.{◌≡◌, ◌&&◌, ◌≤◌, ◌<◌, get_or};
 ghost use Rattle.layout.specs.Places.{nodes, task_queues, first_free_at, node};
 ghost use Rattle.layout.specs.Asked.{Stretch};

@@ -1,4 +1,6 @@
 // Posting: a letter is put into a node's stretch, or refused there.
+#![tactic(auto)]
+
 ghost use Rattle.std.specs.Prelude.{◌≡◌, ◌+◌, length};
 ghost use Rattle.layout.specs.Numbers.{header_words};
 ghost use Rattle.blocks.specs.Asked.{Takes};

@@ -1,4 +1,6 @@
 // The postman: his position, how a stage ends, and the turn so far.
+#![tactic(auto)]
+
 ghost use Rattle.std.specs.Prelude.{◌≡◌, ◌+◌, ◌≤◌, ◌<◌, length};
 ghost use Rattle.layout.specs.Places.{nodes, nodes_at};
 ghost use Rattle.postman.specs.Position.{stopped_at, rested_at, position_of, kept};

@@ -1,4 +1,6 @@
 // The queues of a node's stretch: what the three kinds have in common.
+#![tactic(auto)]
+
 ghost use Rattle.std.specs.Prelude.{◌≡◌, ◌+◌, ◌≤◌, ◌<◌, length};
 ghost use Rattle.queues.specs.Queue.{Queue, send_kind, ack_kind, task_kind, items, item_at};
 ghost use Rattle.queues.specs.Moves.{

@@ -1,4 +1,6 @@
 // A letter is read through its chain as if its words stood together: a thin reader over a node's stretch.
+#![tactic(auto)]
+
 ghost use Rattle.std.specs.Prelude.{◌≡◌};
 ghost use Rattle.reading.specs.Read.{carried_of, step_at};
 

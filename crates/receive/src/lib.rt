@@ -1,4 +1,6 @@
 // Receive: the call that takes a letter from a task queue and gives its blocks back.
+#![tactic(auto)]
+
 ghost use Rattle.std.specs.Prelude.{◌≡◌, true, cond, ◌||◌, ◌+◌, ◌≤◌, eqb, length, drop};
 ghost use Rattle.layout.specs.Places.{setting_words, nodes_at, task_at, empty_word};
 ghost use Rattle.layout.specs.Numbers.{header_words};

@@ -1,4 +1,6 @@
 // A script of words on standard input, and the lines that answer it on standard output.
+#![tactic(auto)]
+
 ghost use Rattle.std.specs.Prelude.{◌≡◌, ◌≤◌, length};
 ghost use Rattle.script.specs.Words.{rising, sum_of};
 

@@ -1,4 +1,6 @@
 // Send: the call that takes blocks, writes a letter and appends it.
+#![tactic(auto)]
+
 ghost use Rattle.std.specs.Prelude.{◌≡◌, true, ◌+◌, length};
 ghost use Rattle.settings.specs.Range.{InRange};
 ghost use Rattle.layout.specs.Numbers.{header_words};

@@ -1,4 +1,6 @@
 // The five settings: a type each, with its least and greatest value and a constructor that refuses.
+#![tactic(auto)]
+
 ghost use Rattle.std.specs.Prelude.{◌≡◌, cond};
 ghost use Rattle.settings.specs.Limits.{within, block_words, node_blocks, queue_length};
 ghost use Rattle.settings.specs.Made.{made_settings};

@@ -1,4 +1,6 @@
 // Set up: the first of the five calls.
+#![tactic(auto)]
+
 ghost use Rattle.std.specs.Prelude.{◌≡◌, ◌++◌, ◌*◌, length, take, drop, replicate};
 ghost use Rattle.settings.specs.Made.{settings_of};
 ghost use Rattle.settings.specs.Range.{InRange};

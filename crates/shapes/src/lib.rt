@@ -1,4 +1,6 @@
 // The third rule of a sound memory: the queues of a node.
+#![tactic(auto)]
+
 ghost use Rattle.std.specs.Prelude.{◌≡◌, ◌<◌, ◌≤◌, length};
 ghost use Rattle.layout.specs.Asked.{Stretch};
 ghost use Rattle.queues.specs.Queue.{Queue, Placed, start, items, contents};

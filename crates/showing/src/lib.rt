@@ -1,4 +1,6 @@
 // What the list shows of a letter, which item it leaves out, and the words that it reads in a node's own stretch.
+#![tactic(auto)]
+
 ghost use Rattle.std.specs.Prelude.{◌≡◌, cond, ◌≤◌, ◌<◌, length};
 ghost use Rattle.layout.specs.Places.{nodes, nodes_at, node};
 ghost use Rattle.layout.specs.Numbers.{header_words};

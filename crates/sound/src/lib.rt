@@ -1,4 +1,6 @@
 // A sound memory: the test that every call but set up begins with.
+#![tactic(auto)]
+
 ghost use Rattle.std.specs.Prelude.{◌≡◌, ◌≤◌, length};
 ghost use Rattle.layout.specs.Places.{setting_words};
 ghost use Rattle.sound.specs.Reading.{settings_in};

@@ -1,4 +1,6 @@
 // A sound memory: the test of the six rules, for any slice.
+#![tactic(auto)]
+
 ghost use Rattle.std.specs.Prelude.{◌≡◌, true, ◌&&◌, ◌<◌};
 ghost use Rattle.words.specs.Words.{every};
 ghost use Rattle.layout.specs.Places.{nodes};

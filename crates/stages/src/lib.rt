@@ -1,4 +1,6 @@
 // The stages of a postman's turn, each change to a node made in that node's stretch alone.
+#![tactic(auto)]
+
 ghost use Rattle.std.specs.Prelude.{◌≡◌};
 ghost use Rattle.postman.specs.Position.{at};
 ghost use Rattle.postman.specs.Round.{did};

@@ -1,4 +1,6 @@
 // Finding a letter in a task queue, and taking an item out of it.
+#![tactic(auto)]
+
 ghost use Rattle.std.specs.Prelude.{◌≡◌, ◌≤◌, ◌<◌};
 ghost use Rattle.layout.specs.Asked.{Stretch};
 ghost use Rattle.queues.specs.Queue.{Queue, items, contents, task_kind};

@@ -1,4 +1,6 @@
 // The task table: the test of its rule, and where a task sits.
+#![tactic(auto)]
+
 ghost use Rattle.std.specs.Prelude.{◌≡◌, ◌<◌, length, replicate, true, ◌&&◌};
 ghost use Rattle.layout.specs.Places.{table_words, task_ids};
 ghost use Rattle.tasks.specs.Table.{holds_none, seated, apart, right_table};

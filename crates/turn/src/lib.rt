@@ -1,4 +1,6 @@
 // The postman's turn: the fifth call.
+#![tactic(auto)]
+
 ghost use Rattle.std.specs.Prelude.{◌≡◌, true};
 ghost use Rattle.sound.specs.Sound.{sound};
 ghost use Rattle.postman.specs.Round.{post, at_start};

@@ -1,1 +1,2 @@
 // No code: small memories, sound and broken in each of the rules, worked through by the checker.
+#![tactic(auto)]

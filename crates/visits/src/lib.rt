@@ -1,4 +1,6 @@
 // Visiting the chains of a node: each block is marked once, and each letter is looked at.
+#![tactic(auto)]
+
 ghost use Rattle.std.specs.Prelude.{◌≡◌, ◌&&◌, [], ◌∷◌, ◌≤◌, length};
 ghost use Rattle.layout.specs.Asked.{Stretch};
 ghost use Rattle.layout.specs.Places.{table_words};

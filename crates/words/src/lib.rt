@@ -1,4 +1,6 @@
 // Words: counts that stop at the greatest word, and stretches of words cleared or copied.
+#![tactic(auto)]
+
 ghost use Rattle.std.specs.Prelude.{◌≡◌, length, replicate};
 ghost use Rattle.words.specs.Words.{more};
 

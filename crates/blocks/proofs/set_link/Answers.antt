@@ -1,0 +1,6 @@
+-- `blocks::set_link` meets its contract. Assumes nothing.
+use borrow.Author.Rules.{rules}
+use Rattle.blocks.proofs.set_link.Goals as goal
+
+pub returns : goal.returns
+returns c = cc

@@ -1,0 +1,48 @@
+-- `carrying::collect_from` meets its contract: what is left from a node on is the whole. Assumes nothing.
+use mathlib.Core.Path.{◌≡◌, refl, ◌∙◌}
+use Prim.Native.Nat.{◌-◌}
+use native.Mathlib.Omega.{arith}
+use lib.ListN.{length}
+use Rattle.stages_keep.specs.Steps.{collected_from}
+use Rattle.carrying.specs.Asked.{CollectsFrom}
+use Rattle.carrying.proofs.Asks.{backs_all, backs_next}
+use Rattle.carrying.proofs.Ways.{backs_none, backs_go}
+use Rattle.carrying.proofs.collect_from.Goals as goal
+
+pub loop-other-init : goal.loop-other-init
+loop-other-init c = (refl, c.requires, refl)
+
+pub acks_for-k-requires : goal.acks_for-k-requires
+acks_for-k-requires c = record { sound_at = c.loop-other.invariant.1.stands; i_lt_nodes = omega arith }
+
+pub collect_all-a-requires : goal.collect_all-a-requires
+collect_all-a-requires c =
+    let x = c.args in
+    let l = c.loop-other in
+    backs_all x.s l.memory x.j l.other l.a l.invariant.1 (omega arith) c.acks_for-k.ensures
+
+pub overflow_add-other : goal.overflow_add-other
+overflow_add-other c = omega arith
+
+pub loop-other-smaller : goal.loop-other-smaller
+loop-other-smaller c = omega arith
+
+pub loop-other-preserved : goal.loop-other-preserved
+loop-other-preserved c =
+    let x = c.args in
+    let l = c.loop-other in
+    let k = c.acks_for-k.ensures in
+    let e = c.collect_all-a.ensures in (
+      c.collect_all-a.auto.memory ∙ l.invariant.0,
+      backs_next x.s l.memory x.j l.other l.a l.invariant.1 (omega arith) k e,
+      backs_go x.s x.j l.memory l.other l.a (omega arith) k e refl ∙ l.invariant.2,
+    )
+
+pub shape_of-memory : goal.shape_of-memory
+shape_of-memory c = c.loop-other.invariant.0
+
+pub returns : goal.returns
+returns c =
+    let x = c.args in
+    let l = c.loop-other in
+    backs_none x.s x.j l.memory l.other l.a (omega arith) ∙ l.invariant.2

@@ -1,0 +1,6 @@
+-- `copies::is_same_block` meets its contract. Assumes nothing.
+use borrow.Author.Rules.{rules}
+use Rattle.copies.proofs.is_same_block.Goals as goal
+
+pub returns : goal.returns
+returns c = rw (← c.block_at-p.ensures.is, ← c.block_at-q.ensures.is) c.is_same.ensures

@@ -1,0 +1,28 @@
+-- `gaps::gather` meets its contract: after i turns the row holds the live ones of the first i items. Assumes nothing.
+use borrow.Author.Rules.{rules}
+use Rattle.gaps.proofs.Turns.{row_none, gather_some, gather_zero}
+use Rattle.gaps.specs.Row.{Row}
+use Rattle.queues.specs.Items.{live}
+use Rattle.queues.specs.Queue.{run, items}
+use Prim.Native.Nat.{◌-◌, ◌≤◌}
+use native.Mathlib.Omega.{arith}
+use mathlib.Core.Logic.{⊎_elim}
+use mathlib.Core.Path.{◌≡◌}
+use Rattle.gaps.proofs.gather.Goals as goal
+
+pub loop-i-init : goal.loop-i-init
+unfolding run
+loop-i-init c = (omega arith, omega arith, row_none c.requires.row_value)
+
+pub loop-i-preserved : goal.loop-i-preserved
+loop-i-preserved c =
+    let x = c.args in
+    let o = c.loop-i in
+    let p = c.item-x.ensures in
+    ⊎_elim (λ w. (omega arith, omega arith, rw (w.1, w.2) (gather_some x.k x.node.now x.q o.i o.invariant.2 p w.0.taken (omega arith)))) (λ w. (omega arith, omega arith, rw (w.1, w.2) (gather_zero x.k x.node.now x.q o.i o.invariant.2 p w.0.left))) c.if-x-ne0.branch
+
+pub returns : goal.returns
+returns c =
+    let x = c.args in
+    let e : c.loop-i.i ≡ items x.k x.node.now x.q = omega (arith, c.items_of-items.ensures) in
+    rw e at c.loop-i.invariant.2

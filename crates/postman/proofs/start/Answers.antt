@@ -1,0 +1,6 @@
+-- `postman::start` meets its contract. Assumes nothing.
+use borrow.Author.Rules.{rules}
+use Rattle.postman.proofs.start.Goals as goal
+
+pub returns : goal.returns
+returns c = rw c.rested-position.ensures

@@ -1,0 +1,6 @@
+-- `postman::stop` meets its contract. Assumes nothing.
+use borrow.Author.Rules.{rules}
+use Rattle.postman.proofs.stop.Goals as goal
+
+pub returns : goal.returns
+returns c = rw c.amended-position.ensures

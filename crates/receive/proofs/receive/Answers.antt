@@ -1,0 +1,12 @@
+-- `receive::receive` meets its contract: the memory is tested, then a letter is taken. Assumes nothing.
+use mathlib.Core.Path.{sym, ◌∙◌}
+use borrow.Author.Tests.{not-true, not-false}
+use Rattle.receive.proofs.Refused.{not_sound_lem}
+use borrow.Author.Rules.{rules}
+use Rattle.receive.proofs.receive.Goals as goal
+
+pub returns-then-not-is_sound : goal.returns-then-not-is_sound
+returns-then-not-is_sound c = let x = c.args in not_sound_lem x.memory.now x.destination x.source x.out.now (sym c.is_sound.ensures ∙ not-true _ c.if-not-is_sound.true)
+
+pub receive_sound-requires : goal.receive_sound-requires
+receive_sound-requires c = sym c.is_sound.ensures ∙ not-false _ c.if-not-is_sound.false

@@ -1,0 +1,18 @@
+-- `setup::lay_nodes` meets its contract: after i turns i stretches are laid. Assumes nothing.
+use mathlib.Core.Path.{◌≡◌, refl, ◌∙◌}
+use Prim.Native.Nat.{ℕ, ◌≤◌, ◌-◌, ◌+◌}
+use native.Mathlib.Omega.{arith}
+use lib.ListN.{length, take}
+use lib.Seq.{length-take-le}
+use borrow.Author.Rules.{rules}
+use borrow.Rule.Slice.PartMut.{same_len_mid}
+use Rattle.layout.specs.Places.{nodes_at}
+use Rattle.layout.proofs.Fits.{nodes_fit}
+use Rattle.setup.proofs.Laws.{laid_nodes, nodes_none, nodes_next, nodes_all, node-back}
+use Rattle.setup.proofs.lay_nodes.Given as goal
+
+abbrev pub invariant-loop-i : goal.invariant-loop-i
+invariant-loop-i l = (l.i ≤ 6) × (length l.memory ≡ length l.initial.memory) × (l.memory ≡ laid_nodes l.s (take nodes_at l.initial.memory) l.initial.memory l.i)
+
+abbrev pub decreases-loop-i : goal.decreases-loop-i
+decreases-loop-i l = 6 - l.i

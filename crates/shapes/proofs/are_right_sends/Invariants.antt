@@ -1,0 +1,21 @@
+-- `shapes::are_right_sends` meets its contract. Assumes nothing.
+use mathlib.Core.Path.{◌≡◌}
+use mathlib.Core.Bool.{true}
+use Prim.Native.Nat.{◌≤◌, ◌-◌}
+use native.Mathlib.Omega.{arith}
+use lib.Dec.{eqb}
+use borrow.Author.Rules.{rules}
+use borrow.Author.Tests.{not-true, not-false}
+use Rattle.words.specs.Words.{every}
+use Rattle.layout.specs.Places.{send_at}
+use Rattle.queues.specs.Queue.{send_kind}
+use Rattle.sound.proofs.Given.{placed-send}
+use Rattle.sound.proofs.Tests.{every_none, turn_no, turn_more, turn_all}
+use Rattle.shapes.specs.Shape.{right_post, right_sends}
+use Rattle.shapes.proofs.are_right_sends.Given as goal
+
+abbrev pub invariant-loop-k : goal.invariant-loop-k
+invariant-loop-k l = (l.k ≤ 6) × (every l.k (λ l.k. right_post (send_kind l.s) l.node (send_at l.s l.k) l.s.m (eqb l.k l.i)) ≡ true)
+
+abbrev pub decreases-loop-k : goal.decreases-loop-k
+decreases-loop-k l = 6 - l.k

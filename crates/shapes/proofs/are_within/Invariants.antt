@@ -1,0 +1,15 @@
+-- `shapes::are_within` meets its contract. Assumes nothing.
+use mathlib.Core.Path.{◌≡◌, ap}
+use Prim.Native.Nat.{ℕ, ◌-◌, ◌≤◌}
+use native.Mathlib.Omega.{arith}
+use borrow.Author.Rules.{rules}
+use Rattle.queues.specs.Queue.{run, contents}
+use Rattle.shapes.specs.Shape.{items_within}
+use Rattle.shapes.proofs.Steps.{within_low, within-high, within_more, within_none}
+use Rattle.shapes.proofs.are_within.Given as goal
+
+abbrev pub invariant-loop-i : goal.invariant-loop-i
+invariant-loop-i l = (l.i ≤ l.count) × (items_within l.least l.most (contents l.k l.node l.q) ≡ items_within l.least l.most (run l.k l.node l.q l.i (l.count - l.i)))
+
+abbrev pub decreases-loop-i : goal.decreases-loop-i
+decreases-loop-i l = l.count - l.i

@@ -1,0 +1,15 @@
+-- `shapes::are_zero` meets its contract. Assumes nothing.
+use mathlib.Core.Path.{◌≡◌}
+use Prim.Native.Nat.{◌-◌, ◌≤◌}
+use native.Mathlib.Omega.{arith}
+use lib.Dec.{eqb}
+use borrow.Author.Rules.{rules}
+use Rattle.shapes.specs.Shape.{zeroes}
+use Rattle.shapes.proofs.Clear.{zero_none, zero_more}
+use Rattle.shapes.proofs.are_zero.Given as goal
+
+abbrev pub invariant-loop-i : goal.invariant-loop-i
+invariant-loop-i l = (l.a ≤ l.i) × (l.i ≤ l.e) × (eqb l.bits 0 ≡ zeroes l.node l.a l.i)
+
+abbrev pub decreases-loop-i : goal.decreases-loop-i
+decreases-loop-i l = l.e - l.i

@@ -1,0 +1,30 @@
+-- `shapes::is_clear` meets its contract. Assumes nothing.
+use mathlib.Core.Path.{sym, ◌∙◌}
+use native.Mathlib.Omega.{arith}
+use borrow.Author.Rules.{rules}
+use borrow.Author.Tests.{not-true, not-false}
+use Rattle.sound.proofs.Tests.{no_first, yes_first}
+use Rattle.shapes.proofs.Clear.{clear_none, clear_straight, clear_round}
+use Rattle.shapes.proofs.is_clear.Goals as goal
+
+pub returns-then-count-eq0 : goal.returns-then-count-eq0
+returns-then-count-eq0 c =
+    let b = c in
+    c.are_zero.ensures ∙ clear_none _ _ _ _ _ c.requires.first_value.0 c.requires.first_value.1 c.if-count-eq0.true
+
+pub returns-then-k-end : goal.returns-then-k-end
+returns-then-k-end c =
+    let b = c in
+    c.are_zero-then-k-end.ensures ∙ clear_round _ _ _ _ _ c.requires.first_value.0 c.requires.first_value.1 (omega arith)
+
+pub returns-then-not-are_zero : goal.returns-then-not-are_zero
+returns-then-not-are_zero c =
+    let b = c in
+    no_first _ _ (sym c.are_zero-2.ensures ∙ not-true _ c.if-not-are_zero.true)
+    ∙ clear_straight _ _ _ _ _ c.requires.first_value.0 c.requires.first_value.1 (omega arith)
+
+pub returns : goal.returns
+returns c =
+    let b = c in
+    yes_first _ _ _ (sym c.are_zero-2.ensures ∙ not-false _ c.if-not-are_zero.false) c.are_zero-3.ensures
+    ∙ clear_straight _ _ _ _ _ c.requires.first_value.0 c.requires.first_value.1 (omega arith)

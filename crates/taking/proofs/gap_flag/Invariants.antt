@@ -1,0 +1,16 @@
+-- `taking::gap_flag` meets its contract: the flag from place i on is the flag. Assumes nothing.
+use Rattle.taking.proofs.Turns.{flag-gap, flag-live, flag_none}
+use Rattle.queues.specs.Items.{gap_flag}
+use Rattle.queues.specs.Queue as queue
+use Rattle.queues.specs.Queue.{run, contents}
+use Prim.Native.Nat.{◌-◌, ◌≤◌}
+use native.Mathlib.Omega.{arith}
+use mathlib.Core.Path.{◌≡◌, sym, ap, ◌∙◌}
+use borrow.Author.Rules.{rules}
+use Rattle.taking.proofs.gap_flag.Given as goal
+
+abbrev pub invariant-loop-i : goal.invariant-loop-i
+invariant-loop-i l = (l.items ≡ queue.items l.k l.node l.q) × (l.i ≤ l.items) × (gap_flag (run l.k l.node l.q l.i (l.items - l.i)) ≡ gap_flag (contents l.k l.node l.q))
+
+abbrev pub decreases-loop-i : goal.decreases-loop-i
+decreases-loop-i l = l.items - l.i

@@ -1,0 +1,12 @@
+-- `taking::is_from` meets its contract. Assumes nothing.
+use Rattle.taking.proofs.Turns.{from_any, from_one}
+use borrow.Author.Rules.{rules}
+use Rattle.taking.proofs.is_from.Goals as goal
+
+pub returns-then-source-eq0 : goal.returns-then-source-eq0
+returns-then-source-eq0 c = let x = c.args in from_any x.s x.node.now x.source x.b c.if-source-eq0.true
+
+pub returns : goal.returns
+returns c =
+    let x = c.args in
+    from_one x.s x.node.now x.source x.b c.if-source-eq0.false c.block_at-at.result c.block_at-at.ensures.is

@@ -1,0 +1,22 @@
+-- `taking::take` meets its contract, by whether the place is the first. Assumes nothing.
+use Rattle.taking.proofs.Turns.{out_first, out_further}
+use Rattle.queues.proofs.Views.{queue-dropped}
+use native.Mathlib.Omega.{arith}
+use mathlib.Core.Path.{◌∙◌}
+use borrow.Author.Rules.{rules}
+use Rattle.taking.proofs.take.Goals as goal
+
+pub drop_zeroes-requires : goal.drop_zeroes-requires
+drop_zeroes-requires c =
+    let x = c.args in
+    rw c.drop_first.ensures.0 (queue-dropped x.k x.node.now x.q c.requires.queue (omega arith))
+
+pub returns-then-i-eq0 : goal.returns-then-i-eq0
+returns-then-i-eq0 c =
+    let x = c.args in
+    c.drop_zeroes.ensures ∙ out_first x.k x.node.now x.q x.i (omega arith) c.drop_first.ensures.0
+
+pub returns : goal.returns
+returns c =
+    let x = c.args in
+    rw c.slot_at-at.ensures.is (out_further x.k x.node.now x.q x.i (λ e. omega arith))

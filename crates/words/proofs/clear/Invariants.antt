@@ -1,0 +1,15 @@
+-- `words::clear` meets its contract: after i turns the first i words are 0. Assumes nothing.
+use mathlib.Core.Path.{◌≡◌, ◌∙◌}
+use mathlib.Core.List.{◌++◌, append-nil}
+use Prim.Native.Nat.{◌≤◌, ◌-◌}
+use native.Mathlib.Omega.{arith}
+use lib.ListN.{length, drop, replicate, length-set, drop_of_length-le}
+use borrow.Author.Rules.{rules}
+use borrow.Author.Fill.{fill_more}
+use Rattle.words.proofs.clear.Given as goal
+
+abbrev pub invariant-loop-i : goal.invariant-loop-i
+invariant-loop-i l = (l.i ≤ length l.initial.words) × (length l.words ≡ length l.initial.words) × (l.words ≡ replicate l.i 0 ++ drop l.i l.initial.words)
+
+abbrev pub decreases-loop-i : goal.decreases-loop-i
+decreases-loop-i l = length l.initial.words - l.i

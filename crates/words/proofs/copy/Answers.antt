@@ -1,0 +1,21 @@
+-- `words::copy` meets its contract: after i turns the first i words are those of `from`. Assumes nothing.
+use mathlib.Core.Path.{◌≡◌, ◌∙◌}
+use mathlib.Core.List.{◌++◌}
+use Prim.Native.Nat.{◌≤◌, ◌-◌}
+use native.Mathlib.Omega.{arith}
+use lib.ListN.{length, take, drop, length-set}
+use borrow.Author.Rules.{rules}
+use Rattle.words.proofs.Parts.{laid_more, laid_all}
+use Rattle.words.proofs.copy.Goals as goal
+
+pub loop-i-preserved : goal.loop-i-preserved
+loop-i-preserved c =
+    let l = c.loop-i in
+    let a = c.args in
+    (search rules, simp length-set (search rules), rw l.invariant.2 (laid_more l.i a.from.now a.to.now (omega arith) (omega arith)))
+
+pub returns : goal.returns
+returns c =
+    let l = c.loop-i in
+    let a = c.args in
+    l.invariant.2 ∙ laid_all l.i a.from.now a.to.now (omega arith) (omega arith)

@@ -1,0 +1,15 @@
+-- `words::copy` meets its contract: after i turns the first i words are those of `from`. Assumes nothing.
+use mathlib.Core.Path.{◌≡◌, ◌∙◌}
+use mathlib.Core.List.{◌++◌}
+use Prim.Native.Nat.{◌≤◌, ◌-◌}
+use native.Mathlib.Omega.{arith}
+use lib.ListN.{length, take, drop, length-set}
+use borrow.Author.Rules.{rules}
+use Rattle.words.proofs.Parts.{laid_more, laid_all}
+use Rattle.words.proofs.copy.Given as goal
+
+abbrev pub invariant-loop-i : goal.invariant-loop-i
+invariant-loop-i l = (l.i ≤ length l.from) × (length l.to ≡ length l.from) × (l.to ≡ take l.i l.from ++ drop l.i l.initial.to)
+
+abbrev pub decreases-loop-i : goal.decreases-loop-i
+decreases-loop-i l = length l.from - l.i
