@@ -1,5 +1,5 @@
 -- Counting: of lists joined and cut, of sums with one value put anew, and of the numbers 1 to n, each once. Assumes nothing.
-use mathlib.Core.Path.{◌≡◌, refl, sym, ap, ◌∙◌}
+use mathlib.Core.Path.{subst, ◌≡◌, refl, sym, ap, ◌∙◌}
 use mathlib.Core.List.{List, [], ◌∷◌, ◌++◌}
 use Prim.Native.Nat.{ℕ, zero, suc, ◌+◌, ◌≤◌, ◌<◌}
 use native.Mathlib.Omega.{arith}
@@ -10,6 +10,9 @@ use Rattle.words.proofs.Lists.{put, same?}
 
 pub hit_self : (b : ℕ) → hit b b ≡ 1
 hit_self b = rw (eq-eqb b b refl)
+
+pub hit_same : (b x : ℕ) → b ≡ x → hit b x ≡ 1
+hit_same b x e = subst (λ y. hit b y ≡ 1) e (hit_self b)
 
 pub hit_other : (b x : ℕ) → (b ≡ x → ⊥) → hit b x ≡ 0
 hit_other b x h = rw (ne_eqb b x h)
@@ -66,14 +69,14 @@ pub down_in : (n b : ℕ) → 1 ≤ b → b ≤ n → occurs b (down_from n) ≡
 down_in zero b l m = absurd (omega arith)
 down_in (suc n) b l m =
     same? b (suc n)
-    (λ q e. rw q (omega (arith, hit_self (suc n), down_out n (suc n) (omega arith))))
+    (λ q e. omega (arith, hit_same b (suc n) q, down_out n b (omega arith)))
     (λ q e. omega (arith, hit_other b (suc n) q, down_in n b l (omega arith)))
 
 pub down_once : (n b : ℕ) → occurs b (down_from n) ≤ 1
 down_once zero b = omega arith
 down_once (suc n) b =
     same? b (suc n)
-    (λ q e. rw q (omega (arith, hit_self (suc n), down_out n (suc n) (omega arith))))
+    (λ q e. omega (arith, hit_same b (suc n) q, down_out n b (omega arith)))
     (λ q e. omega (arith, hit_other b (suc n) q, down_once n b))
 
 -- a number that stands there is one of 1 to n
