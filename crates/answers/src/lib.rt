@@ -6,7 +6,7 @@ ghost use Rattle.answers.specs.Numbers.{bare as bareAnswer};
 
 // The number of 'What comes back' and the call's values, zeroes where it has none.
 #[repr(C)]
-#[derive(Drop)]
+#[derive(Clone, Copy)]
 pub struct Answer {
     pub number: u32,
     pub first: u32,

@@ -11,7 +11,7 @@ use Prim.Native.Nat.{ℕ, zero, suc, ◌+◌, ◌-◌, ◌≤◌, ◌<◌}
 use native.Mathlib.Omega.{arith}
 use lib.Dec.{leb, eqb}
 use lib.ListN.{length, get_or, set, take, drop, length-set, length-append, length-drop}
-use lib.Seq.{split_at, take-suc, take_all, length-take-le, get_or-append_seam, get_or-set_same, get_or_set_other, set-set, set_comm, set-get_or}
+use lib.Seq.{split_at, take-suc, take_all, length-take-le, get_or-append_seam, get_or-set_same, get_or-set_other, set-set, set_comm, set-get_or}
 use borrow.Author.Tests.{le-leb, lt-leb}
 use Rattle.words.specs.Count.{occurs}
 use Rattle.words.proofs.Count.{hit_self, occurs-append, occurs-split}
@@ -245,7 +245,7 @@ module _ (s : Settings) (node : List ℕ) (st : Stretch s node) where
         let h : 0 < length node = omega (arith, head_fits s, st.long) in
         let v : ℕ = link s node y in
         let f : get_or (taken s node n) 0 0 ≡ v =
-        ap (λ (l : List ℕ). get_or l 0 0) taken_is ∙ get_or_set_other (set node 0 v) a 0 0 0 ne ∙ get_or-set_same node 0 v 0 h in
+        ap (λ (l : List ℕ). get_or l 0 0) taken_is ∙ get_or-set_other (set node 0 v) a 0 0 0 ne ∙ get_or-set_same node 0 v 0 h in
         ap₂ (λ (z x : ℕ). set (set (taken s node n) (link_at s z) x) 0 (get_or node 0 0)) last_is f
         ∙ ap (λ (l : List ℕ). set (set l a v) 0 (get_or node 0 0)) taken_is
         ∙ ap (λ (l : List ℕ). set l 0 (get_or node 0 0)) (set-set (set node 0 v) a 0 v ∙ set_comm node 0 a v v ne ∙ ap (λ (l : List ℕ). set l 0 v) (set-get_or node a 0))

@@ -91,7 +91,7 @@ pub fn reach(node: &[u32], s: Settings, b: u32, n: usize) -> u32
 }
 
 // What taking blocks answers: the first of them, or that there are too few.
-#[derive(Drop)]
+#[derive(Clone, Copy)]
 pub enum Taken {
     First(u32),
     Short,

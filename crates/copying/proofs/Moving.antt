@@ -5,7 +5,7 @@ use mathlib.Core.List.{List, [], ◌∷◌}
 use Prim.Native.Nat.{ℕ, suc, ◌+◌, ◌-◌, ◌≤◌, ◌<◌, min}
 use native.Mathlib.Omega.{arith}
 use lib.ListN.{length, get_or, set, take, drop, length-set}
-use lib.Seq.{sets, length-sets, take-take, take_all, drop-drop, length-take-le, get_or_set_other}
+use lib.Seq.{sets, length-sets, take-take, take_all, drop-drop, length-take-le, get_or-set_other}
 use Rattle.words.specs.Words.{part, splice}
 use Rattle.words.proofs.Lists.{le_or_lt}
 use Rattle.words.proofs.Parts.{get_d_part, length_part, splice-part, splice-set, splice-splice, part-splice, length-splice, drop-take}
@@ -26,7 +26,7 @@ sets-away : (p l : List ℕ) (a i : ℕ) → (i < a) ⊎ (a + length p ≤ i) �
 sets-away [] l a i h = refl
 sets-away (x ∷ p) l a i h =
     sets-away p (set l a x) (suc a) i (⊎_elim (λ u. inl (omega arith)) (λ u. inr (omega arith)) h)
-    ∙ get_or_set_other l a i x 0 (λ e. ⊎_elim (λ u. omega arith) (λ u. omega arith) h)
+    ∙ get_or-set_other l a i x 0 (λ e. ⊎_elim (λ u. omega arith) (λ u. omega arith) h)
 
 -- ---- words read and stored in a part are words of the list
 module _ (l : List ℕ) (a e : ℕ) (h : a ≤ e) (g : e ≤ length l) where

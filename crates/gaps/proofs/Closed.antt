@@ -8,7 +8,7 @@ use native.Mathlib.Nat.{mod-lt}
 use native.Mathlib.Omega.{arith}
 use lib.Dec.{eqb, ltb}
 use lib.ListN.{length, get_or, set, length-set}
-use lib.Seq.{get_or-set_same, get_or_set_other}
+use lib.Seq.{get_or-set_same, get_or-set_other}
 use borrow.Author.Tests.{eq-eqb, ne_eqb, lt-ltb, le-ltb}
 use Rattle.words.proofs.Lists.{same?, both, and-false, le_or_lt}
 use Rattle.settings.specs.declared.Settings.{Settings}
@@ -34,7 +34,7 @@ module _ (k : Kind) (l : List ℕ) (q : ℕ) (xs : List ℕ) where
   laid-low : (n i : ℕ) → i < q + k.head → get_or (laid k l q xs n) i 0 ≡ get_or l i 0
   unfolding laid
   laid-low zero i h = refl
-  laid-low (suc n) i h = get_or_set_other (laid k l q xs n) (slot_at k l q n) i (get_or xs n 0) 0 (λ e. omega arith) ∙ laid-low n i h
+  laid-low (suc n) i h = get_or-set_other (laid k l q xs n) (slot_at k l q n) i (get_or xs n 0) 0 (λ e. omega arith) ∙ laid-low n i h
 
   laid_at_lem : (n i : ℕ) → Placed k l q → i < n → n ≤ k.slots → get_or (laid k l q xs n) (slot_at k l q i) 0 ≡ get_or xs i 0
   unfolding laid
@@ -43,20 +43,20 @@ module _ (k : Kind) (l : List ℕ) (q : ℕ) (xs : List ℕ) where
       let st : ℕ = start k l q in
       same? i n
       (λ e t. rw e (get_or-set_same (laid k l q xs n) (slot_at k l q n) (get_or xs n 0) 0 (rw (length-laid n) (omega (arith, mod-lt (st + n) {m = k.slots} (omega arith))))))
-      (λ e t. get_or_set_other (laid k l q xs n) (slot_at k l q n) (slot_at k l q i) (get_or xs n 0) 0 (λ y. places_apart st i n k.slots (omega arith) (omega arith) e (omega arith)) ∙ laid_at_lem n i p (omega arith) (omega arith))
+      (λ e t. get_or-set_other (laid k l q xs n) (slot_at k l q n) (slot_at k l q i) (get_or xs n 0) 0 (λ y. places_apart st i n k.slots (omega arith) (omega arith) e (omega arith)) ∙ laid_at_lem n i p (omega arith) (omega arith))
 
   -- whatever stood in the slots before
   ring_laid : Placed k l q → start k l q < k.slots → length xs ≤ k.slots → Ring k (set (laid k l q xs k.slots) (q + items_word) (length xs)) q xs
   ring_laid p b f =
       let m : List ℕ = laid k l q xs k.slots in
       let z = length-laid k.slots in
-      let e₀ : get_or (set m (q + 1) (length xs)) q 0 ≡ start k l q = get_or_set_other m (q + 1) q (length xs) 0 (λ e. omega arith) ∙ laid-low k.slots q (omega arith) in
+      let e₀ : get_or (set m (q + 1) (length xs)) q 0 ≡ start k l q = get_or-set_other m (q + 1) q (length xs) 0 (λ e. omega arith) ∙ laid-low k.slots q (omega arith) in
       record {
         placed = record { lies = rw (length-set, z) p.lies; some = p.some; small = p.small; low = p.low; high = p.high };
         begins = rw e₀ b;
         count = get_or-set_same m (q + 1) (length xs) 0 (omega arith);
         fits = f;
-        slots = λ i h. rw e₀ (get_or_set_other m (q + 1) (slot_at k l q i) (length xs) 0 (λ e. omega arith) ∙ laid_at_lem k.slots i p h (omega arith));
+        slots = λ i h. rw e₀ (get_or-set_other m (q + 1) (slot_at k l q i) (length xs) 0 (λ e. omega arith) ∙ laid_at_lem k.slots i p h (omega arith));
       }
 
 -- ---- CLOSING

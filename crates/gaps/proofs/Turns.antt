@@ -6,7 +6,7 @@ use native.Mathlib.Nat.{zero-add}
 use native.Mathlib.Numerals.{add-one}
 use native.Mathlib.Omega.{arith}
 use lib.ListN.{get_or, set, length-set, length-append, replicate, length-replicate}
-use lib.Seq.{get_or-set_same, get_or_set_other, get_or_at}
+use lib.Seq.{get_or-set_same, get_or-set_other, get_or_at}
 use borrow.Author.Tests.{eq-eqb, ne_eqb}
 use Rattle.words.proofs.Lists.{same?}
 use Rattle.queues.specs.declared.Kind.{Kind}
@@ -48,7 +48,7 @@ row_more p {row} {n} x r h =
       many = rw length-append (omega (arith, r.many));
       holds = λ j. same? j n
           (λ e t. rw e (get_or-set_same row n x 0 (omega (arith, r.size)) ∙ sym (get_or_at p x [] 0 n (sym r.many))))
-          (λ e t. get_or_set_other row n j x 0 e ∙ r.holds j ∙ sym (get_or_snoc p x j (λ z. e (z ∙ sym r.many))));
+          (λ e t. get_or-set_other row n j x 0 e ∙ r.holds j ∙ sym (get_or_snoc p x j (λ z. e (z ∙ sym r.many))));
     }
 
 -- ---- a turn of `gather`

@@ -87,7 +87,7 @@ pub fn read(node: &[u32], s: Settings, b: u32, at: usize, out: &mut [u32])
 }
 
 // The two tasks of a letter, each with its node.
-#[derive(Drop)]
+#[derive(Clone, Copy)]
 pub struct Header {
     pub source: u32,
     pub from: u32,

@@ -5,7 +5,7 @@ use Prim.Native.Nat.{ℕ, suc, ◌+◌, ◌≤◌, ◌<◌}
 use native.Mathlib.Numerals.{add-one}
 use native.Mathlib.Omega.{arith}
 use lib.ListN.{length, get_or, set, length-set}
-use lib.Seq.{get_or-set_same, get_or_set_other}
+use lib.Seq.{get_or-set_same, get_or-set_other}
 use Rattle.words.specs.Count.{sum}
 use Rattle.words.proofs.Lists.{same?}
 use Rattle.layout.specs.Places.{task_ids}
@@ -38,14 +38,14 @@ module _ (letters : ℕ → ℕ) where
           long = length-set ranks task n ∙ a.long;
           total = rw (add-one task) (ap₂ (λ (x y : ℕ). x + y) a.total e);
           done = done;
-          left = λ t g. get_or_set_other ranks task t n 0 (λ z. omega arith) ∙ a.left t (omega arith);
+          left = λ t g. get_or-set_other ranks task t n 0 (λ z. omega arith) ∙ a.left t (omega arith);
         }
       where
         done : (t : ℕ) → t < task + 1 → get_or (set ranks task n) t 0 ≡ sum t letters
         done t g =
             same? t task
             (λ q z. rw q (get_or-set_same ranks task n 0 (omega (arith, a.long)) ∙ a.total))
-            (λ q z. get_or_set_other ranks task t n 0 q ∙ a.done t (below t task (omega arith) q))
+            (λ q z. get_or-set_other ranks task t n 0 q ∙ a.done t (below t task (omega arith) q))
 
     -- the number of letters so far, with the next task's, is no more than that of all
     pub adding_few : task < task_ids → n + letters task ≤ sum task_ids letters

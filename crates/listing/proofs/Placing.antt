@@ -7,7 +7,7 @@ use Prim.Native.Nat.{ℕ, ◌+◌, ◌≤◌, ◌<◌}
 use native.Mathlib.Omega.{arith}
 use lib.Dec.{eqb}
 use lib.ListN.{length, get_or, set, length-set, get_or-eq_default}
-use lib.Seq.{get_or-set_same, get_or_set_other}
+use lib.Seq.{get_or-set_same, get_or-set_other}
 use Rattle.words.proofs.Lists.{same?, le_or_lt}
 use Rattle.showing.specs.declared.Shown.{Shown}
 use Rattle.listing.specs.Asked.{laid_at, Rows, placed, Low}
@@ -63,7 +63,7 @@ rank_placed (x ∷ xs) r t h =
     let a = rank_placed xs (place x r) t g in
     same? x.destination t
     (λ q e. rw e (omega (arith, a, bump_own r.ranks x.destination t q h)))
-    (λ q e. rw e (omega (arith, a, get_or_set_other r.ranks x.destination t (get_or r.ranks x.destination 0 + 1) 0 (λ z. q (sym z)))))
+    (λ q e. rw e (omega (arith, a, get_or-set_other r.ranks x.destination t (get_or r.ranks x.destination 0 + 1) 0 (λ z. q (sym z)))))
 
 -- ---- what is placed so far
 length-out : (xs : List Shown) (r : Rows) → length (placed xs r).out ≡ length r.out

@@ -6,7 +6,7 @@ use Prim.Native.Nat.{ℕ, zero, suc, ◌+◌, ◌-◌, ◌*◌, ◌≤◌, ◌<�
 use native.Mathlib.Nat.{add-zero, zero-add}
 use native.Mathlib.Omega.{arith}
 use lib.ListN.{length, get_or, drop, set, length-append, length-set, length-drop, get_or-append}
-use lib.Seq.{sets, length-sets, get_or-set_same, get_or_set_other, get_or-append-add, get_or-drop, ext_get_or}
+use lib.Seq.{sets, length-sets, get_or-set_same, get_or-set_other, get_or-append-add, get_or-drop, ext_get_or}
 use borrow.Author.Tests.{eq-eqb, ne_eqb}
 use Rattle.words.proofs.Lists.{same?, le_or_lt}
 use Rattle.layout.specs.Places.{task_ids}
@@ -22,11 +22,11 @@ use Rattle.listing.proofs.Laying.{laid-append, length-laid, letter-room}
 -- ---- a word of a list after a run of stores
 sets_below : (l : List ℕ) (a : ℕ) (p : List ℕ) (k : ℕ) → k < a → get_or (sets l a p) k 0 ≡ get_or l k 0
 sets_below l a [] k h = refl
-sets_below l a (v ∷ p) k h = sets_below (set l a v) (suc a) p k (omega arith) ∙ get_or_set_other l a k v 0 (λ e. omega arith)
+sets_below l a (v ∷ p) k h = sets_below (set l a v) (suc a) p k (omega arith) ∙ get_or-set_other l a k v 0 (λ e. omega arith)
 
 sets_above : (l : List ℕ) (a : ℕ) (p : List ℕ) (k : ℕ) → a + length p ≤ k → get_or (sets l a p) k 0 ≡ get_or l k 0
 sets_above l a [] k h = refl
-sets_above l a (v ∷ p) k h = sets_above (set l a v) (suc a) p k (omega arith) ∙ get_or_set_other l a k v 0 (λ e. omega arith)
+sets_above l a (v ∷ p) k h = sets_above (set l a v) (suc a) p k (omega arith) ∙ get_or-set_other l a k v 0 (λ e. omega arith)
 
 sets_in : (l : List ℕ) (a : ℕ) (p : List ℕ) (j : ℕ) → a + length p ≤ length l → j < length p → get_or (sets l a p) (a + j) 0 ≡ get_or p j 0
 sets_in l a [] j h g = absurd (omega arith)
@@ -166,7 +166,7 @@ module _ (all : List Shown) where
           ranked t g =
               same? d t
               (λ e z. rw (← e) (get_or-set_same r.ranks d (n + 1) 0 (omega (arith, i.long)) ∙ omega (arith, i.rank d h, ap length same, length-append (for_task d past) (x ∷ []))))
-              (λ e z. get_or_set_other r.ranks d t (n + 1) 0 (λ y. e (sym y)) ∙ i.rank t g ∙ ap (λ (l : List Shown). length (sorted t) + length l) (sym (other t e)))
+              (λ e z. get_or-set_other r.ranks d t (n + 1) 0 (λ y. e (sym y)) ∙ i.rank t g ∙ ap (λ (l : List Shown). length (sorted t) + length l) (sym (other t e)))
 
       step : Spread old (past ++ x ∷ []) (place x r)
       step = rw (← letter-room x n r.out within) step_out

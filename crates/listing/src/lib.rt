@@ -17,7 +17,7 @@ use showing::Shown;
 use tasks::Seat;
 
 // What a list answers: the number of letters, or why not.
-#[derive(Drop)]
+#[derive(Clone, Copy)]
 pub enum Listed {
     Done(u32),
     NotSound,

@@ -7,7 +7,7 @@ ghost use Rattle.mailplay.specs.Held.{Fits};
 use script::Read;
 
 // How many words of the memory and of the table are in use, and whether to go on.
-#[derive(Drop)]
+#[derive(Clone, Copy)]
 pub struct Held {
     pub memory: usize,
     pub table: usize,

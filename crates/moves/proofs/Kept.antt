@@ -6,7 +6,7 @@ use mathlib.Core.List.{List, [], ◌∷◌, ◌++◌, map}
 use Prim.Native.Nat.{ℕ, ◌+◌, ◌*◌, ◌≤◌, ◌<◌}
 use native.Mathlib.Omega.{arith}
 use lib.ListN.{length, get_or, set, take, drop, length-append, length-set}
-use lib.Seq.{get_or-set_same, get_or_set_other}
+use lib.Seq.{get_or-set_same, get_or-set_other}
 use Rattle.words.proofs.Lists.{put}
 use Rattle.settings.specs.declared.Settings.{Settings}
 use Rattle.layout.specs.Places.{turn_at, node_size, memory_size, node, with_node, send_at, task_at, first_free_at}
@@ -115,7 +115,7 @@ module _ (s : Settings) (memory : List ℕ) (m : Machine) (rep : RepresentsAt s 
 pub turn-kept : (s : Settings) (memory : List ℕ) (m : Machine) → RepresentsAt s memory m → (v : ℕ) → v ≤ 5
     → RepresentsAt s (set memory turn_at v) (record { turn = v; stage = m.stage; other = m.other; node = m.node })
 turn-kept s memory m rep v h =
-    let w : (k : ℕ) → (k ≡ 5 → ⊥) → get_or (set memory 5 v) k 0 ≡ get_or memory k 0 = λ k n. get_or_set_other memory 5 k v 0 n in
+    let w : (k : ℕ) → (k ≡ 5 → ⊥) → get_or (set memory 5 v) k 0 ≡ get_or memory k 0 = λ k n. get_or-set_other memory 5 k v 0 n in
     let e = set-table memory 5 v (omega arith) (omega arith) in
     let f = rep.formed in
     record {

@@ -9,7 +9,7 @@ use mathlib.Core.List.{List}
 use Prim.Native.Nat.{ℕ, ◌+◌, ◌-◌, ◌≤◌, ◌<◌}
 use native.Mathlib.Omega.{arith}
 use lib.ListN.{length, get_or, set, take}
-use lib.Seq.{get_or-take, get_or_set_other, drop-set-lt}
+use lib.Seq.{get_or-take, get_or-set_other, drop-set-lt}
 use Rattle.words.specs.Words.{splice}
 use Rattle.words.specs.Rows.{row}
 use Rattle.words.proofs.Lists.{put, put_same, put_other, same?}
@@ -108,7 +108,7 @@ module _ (s : Settings) (memory : List ℕ) (k v : ℕ) (h : k < 536) where
 module _ (memory : List ℕ) (k v : ℕ) (lo : 5 ≤ k) (hi : k < 24) where
   pub set-settings : settings_in (set memory k v) ≡ settings_in memory
   set-settings =
-      let g : (j : ℕ) → j < 5 → get_or (set memory k v) j 0 ≡ get_or memory j 0 = λ j a. get_or_set_other memory k j v 0 (λ e. omega arith) in
+      let g : (j : ℕ) → j < 5 → get_or (set memory k v) j 0 ≡ get_or memory j 0 = λ j a. get_or-set_other memory k j v 0 (λ e. omega arith) in
       rw (g 0 (omega arith), g 1 (omega arith), g 2 (omega arith), g 3 (omega arith), g 4 (omega arith))
 
   pub set-table : table_in (set memory k v) ≡ table_in memory

@@ -9,7 +9,7 @@ use mathlib.Core.List.{List, [], ◌∷◌, ◌++◌}
 use Prim.Native.Nat.{ℕ, suc, ◌+◌, ◌-◌, ◌≤◌, ◌<◌}
 use native.Mathlib.Omega.{arith}
 use lib.ListN.{length, get_or, set, take, drop, length-set, length-append, drop_of_length-le}
-use lib.Seq.{split_at, take-suc, length-take-le, get_or_set_other}
+use lib.Seq.{split_at, take-suc, length-take-le, get_or-set_other}
 use Rattle.words.specs.Words.{more}
 use Rattle.words.specs.Rows as word_rows
 use Rattle.words.specs.Count.{occurs}
@@ -210,7 +210,7 @@ module _ (s : Settings) (memory : List ℕ) (size : length memory ≡ memory_siz
         row_with s memory size i h (set l 1 (more (get_or l 1 0))) (length-set l 1 (more (get_or l 1 0)) ∙ (stretch i h).long) 0 (set (R i 0) (0 + 1) (more (get_or l 1 0))) b in
         subst (λ (Q : ℕ → ℕ → List ℕ). Core s Q N) (sym e)
         (head_put s R N core i h (set (R i 0) (0 + 1) (more (get_or l 1 0))) (length-set (R i 0) (0 + 1) (more (get_or l 1 0)))
-        (get_or_set_other (R i 0) (0 + 1) 0 (more (get_or l 1 0)) 0 (λ z. omega arith)))
+        (get_or-set_other (R i 0) (0 + 1) 0 (more (get_or l 1 0)) 0 (λ z. omega arith)))
 
   -- COPY: the letter at index n of place p of node i, into the blocks of the letter on its way in node j
   pub copy-words : (i p n j : ℕ) → i < 6 → p < 78 → n < length ((N i).letters p) → j < 6 → (L : Letter) → (N j).letters 77 ≡ L ∷ [] → length L.chain ≡ needs s (length (get_or ((N i).letters p) n gap).words)

@@ -6,7 +6,7 @@ use Prim.Native.Nat.{ℕ, ◌+◌, ◌≤◌, ◌<◌}
 use native.Mathlib.Omega.{arith}
 use lib.Dec.{eqb}
 use lib.ListN.{length, get_or, set, length-set}
-use lib.Seq.{get_or-set_same, get_or_set_other}
+use lib.Seq.{get_or-set_same, get_or-set_other}
 use borrow.Author.Tests.{eq-eqb, eqb-true}
 use Rattle.words.specs.Count.{occurs}
 use Rattle.words.proofs.Lists.{same?, and-true, and-join}
@@ -29,7 +29,7 @@ marked-count marks (x ∷ l) h e y =
     let k = marked-count (set marks x 1) l (below_set marks l x h) w.1 y in
     same? y x
     (λ q f. let m = get_or-set_same marks x 1 0 (h x (omega (arith, hit_self x))) in rw q (omega (arith, hit_self x, rw q at k)))
-    (λ q f. let m = get_or_set_other marks x y 1 0 q in omega (arith, hit_other y x q))
+    (λ q f. let m = get_or-set_other marks x y 1 0 q in omega (arith, hit_other y x q))
 
 -- no more than once, marks and list together: none is marked on the way
 pub once-fresh : (marks l : List ℕ) → Below (length marks) l → ((y : ℕ) → get_or marks y 0 + occurs y l ≤ 1) → fresh marks l ≡ true
@@ -41,4 +41,4 @@ once-fresh marks (x ∷ l) h f =
     (once-fresh (set marks x 1) l (below_set marks l x h)
     (λ y. same? y x
     (λ q e. let m = get_or-set_same marks x 1 0 (h x (omega (arith, hit_self x))) in rw q (omega (arith, f x, hit_self x)))
-    (λ q e. let m = get_or_set_other marks x y 1 0 q in omega (arith, f y, hit_other y x q))))
+    (λ q e. let m = get_or-set_other marks x y 1 0 q in omega (arith, f y, hit_other y x q))))

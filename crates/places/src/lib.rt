@@ -27,7 +27,7 @@ use settings::Settings;
 use visits::{Asks, Walk};
 
 // Where the letters of a place stand: on which node, in what kind of queue, from which word of the stretch on; and what the place asks of their headers.
-#[derive(Drop)]
+#[derive(Clone, Copy)]
 pub struct Place {
     pub holder: usize,
     pub kind: Kind,

@@ -18,7 +18,7 @@ use letters::Header;
 use settings::Settings;
 
 // What a send answers.
-#[derive(Drop)]
+#[derive(Clone, Copy)]
 pub enum Sent {
     Done(u32),
     NotSound,
@@ -30,7 +30,7 @@ pub enum Sent {
 }
 
 // The queue that a letter goes to: a task queue of the same node, or the send queue for another node.
-#[derive(Drop)]
+#[derive(Clone, Copy)]
 pub enum Goal {
     Task(usize),
     Node(usize),

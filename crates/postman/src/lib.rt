@@ -7,14 +7,14 @@ ghost use Rattle.postman.specs.Position.{stopped_at, rested_at, position_of, kep
 ghost use Rattle.postman.specs.Round.{at_start, stopped, one_letter, blocks_back};
 
 // How a stage ends: done, or stopped with the refusal's number.
-#[derive(Drop)]
+#[derive(Clone, Copy)]
 pub enum Stage {
     Done,
     Stopped(u32),
 }
 
 // Where a postman stands: stage, other node, held block.
-#[derive(Drop)]
+#[derive(Clone, Copy)]
 pub struct Position {
     pub stage: u32,
     pub other: u32,
@@ -22,7 +22,7 @@ pub struct Position {
 }
 
 // A turn so far: the position to keep, letters appended, blocks given back, how the last stage ended.
-#[derive(Drop)]
+#[derive(Clone, Copy)]
 pub struct Round {
     pub position: Position,
     pub letters: u32,

@@ -7,7 +7,7 @@ use native.Mathlib.Nat.{mod-lt, mod-add-mod, add-mod_right, add-zero}
 use native.Mathlib.Numerals.{add-one}
 use native.Mathlib.Omega.{arith}
 use lib.ListN.{length, get_or, set, length-set, length-append, get_or-eq_default}
-use lib.Seq.{get_or-set_same, get_or_set_other, get_or-append_seam}
+use lib.Seq.{get_or-set_same, get_or-set_other, get_or-append_seam}
 use borrow.Author.Tests.{lt-ltb, le-ltb}
 use Rattle.words.specs.Words.{more}
 use Rattle.words.proofs.Lists.{same?, le_or_lt}
@@ -113,16 +113,16 @@ module _ (k : Kind) (l : List ℕ) (q : ℕ) (xs : List ℕ) (r : Ring k l q xs)
       let s : ℕ = start k l q in
       let n₀ : q ≢ a = λ z. ⊎_elim (λ h. omega arith) (λ t. ⊎_elim (λ h. omega arith) (λ h. omega arith) t) o in
       let n₁ : q + 1 ≢ a = λ z. ⊎_elim (λ h. omega arith) (λ t. ⊎_elim (λ h. omega arith) (λ h. omega arith) t) o in
-      let e₀ : get_or (set l a v) q 0 ≡ s = get_or_set_other l a q v 0 n₀ in
+      let e₀ : get_or (set l a v) q 0 ≡ s = get_or-set_other l a q v 0 n₀ in
       record {
         placed = record { lies = rw length-set p.lies; some = p.some; small = p.small; low = p.low; high = p.high };
         begins = rw e₀ r.begins;
-        count = get_or_set_other l a (q + 1) v 0 n₁ ∙ c;
+        count = get_or-set_other l a (q + 1) v 0 n₁ ∙ c;
         fits = r.fits;
         slots = λ i h.
             let m = mod-lt (s + i) {m = k.slots} (omega arith) in
             let n₂ : slot_from k q s i ≢ a = λ z. ⊎_elim (λ g. omega arith) (λ t. ⊎_elim (λ g. omega arith) (λ g. omega arith) t) o in
-            rw e₀ (get_or_set_other l a (slot_from k q s i) v 0 n₂ ∙ r.slots i h);
+            rw e₀ (get_or-set_other l a (slot_from k q s i) v 0 n₂ ∙ r.slots i h);
       }
 
   -- the full count
@@ -138,15 +138,15 @@ module _ (k : Kind) (l : List ℕ) (q : ℕ) (xs : List ℕ) (r : Ring k l q xs)
       let s : ℕ = start k l q in
       let a : ℕ = slot_from k q s i in
       let m = mod-lt (s + i) {m = k.slots} (omega arith) in
-      let e₀ : get_or (set l a v) q 0 ≡ s = get_or_set_other l a q v 0 (λ e. omega arith) in
+      let e₀ : get_or (set l a v) q 0 ≡ s = get_or-set_other l a q v 0 (λ e. omega arith) in
       record {
         placed = record { lies = rw length-set p.lies; some = p.some; small = p.small; low = p.low; high = p.high };
         begins = rw e₀ r.begins;
-        count = get_or_set_other l a (q + 1) v 0 (λ e. omega arith) ∙ r.count ∙ sym (length-set xs i v);
+        count = get_or-set_other l a (q + 1) v 0 (λ e. omega arith) ∙ r.count ∙ sym (length-set xs i v);
         fits = rw length-set f;
         slots = λ j g. rw e₀ (same? j i
             (λ e t. rw e (get_or-set_same l a v 0 (omega arith) ∙ sym (get_or-set_same xs i v 0 h)))
-            (λ e t. get_or_set_other l a (slot_from k q s j) v 0 (λ y. places_apart s j i k.slots g (omega arith) e (omega arith)) ∙ r.slots j g ∙ sym (get_or_set_other xs i j v 0 e)));
+            (λ e t. get_or-set_other l a (slot_from k q s j) v 0 (λ y. places_apart s j i k.slots g (omega arith) e (omega arith)) ∙ r.slots j g ∙ sym (get_or-set_other xs i j v 0 e)));
       }
 
   -- APPEND, where there is room
@@ -161,17 +161,17 @@ module _ (k : Kind) (l : List ℕ) (q : ℕ) (xs : List ℕ) (r : Ring k l q xs)
       let m = mod-lt (s + n) {m = k.slots} (omega arith) in
       let l₁ : List ℕ = set l a x in
       let l₂ : List ℕ = set l₁ (q + 1) (n + 1) in
-      let e₀ : get_or l₂ q 0 ≡ s = get_or_set_other l₁ (q + 1) q (n + 1) 0 (λ e. omega arith) ∙ get_or_set_other l a q x 0 (λ e. omega arith) in
+      let e₀ : get_or l₂ q 0 ≡ s = get_or-set_other l₁ (q + 1) q (n + 1) 0 (λ e. omega arith) ∙ get_or-set_other l a q x 0 (λ e. omega arith) in
       record {
         placed = record { lies = simp length-set p.lies; some = p.some; small = p.small; low = p.low; high = p.high };
         begins = rw e₀ r.begins;
         count = get_or-set_same l₁ (q + 1) (n + 1) 0 (rw length-set (omega arith)) ∙ sym (length-append xs (x ∷ []) ∙ ap (λ (j : ℕ). j + 1) (sym c));
         fits = rw (length-append xs (x ∷ [])) (omega arith);
         slots = λ i h. rw e₀
-            (get_or_set_other l₁ (q + 1) (slot_from k q s i) (n + 1) 0 (λ e. omega arith)
+            (get_or-set_other l₁ (q + 1) (slot_from k q s i) (n + 1) 0 (λ e. omega arith)
             ∙ same? i n
             (λ e t. rw e (get_or-set_same l a x 0 (omega arith) ∙ sym (ap (λ (j : ℕ). get_or (xs ++ x ∷ []) j 0) c ∙ get_or-append_seam xs x [] 0)))
-            (λ e t. get_or_set_other l a (slot_from k q s i) x 0 (λ y. places_apart s i n k.slots h (omega arith) e (omega arith)) ∙ r.slots i h ∙ sym (get_or_snoc xs x i (λ y. e (y ∙ sym c)))));
+            (λ e t. get_or-set_other l a (slot_from k q s i) x 0 (λ y. places_apart s i n k.slots h (omega arith) e (omega arith)) ∙ r.slots i h ∙ sym (get_or_snoc xs x i (λ y. e (y ∙ sym c)))));
       }
 
   pub ring_room : (x : ℕ) → length xs < k.slots → appended k l q x ≡ added k l q x
@@ -211,15 +211,15 @@ module _ (k : Kind) (l : List ℕ) (q x : ℕ) (xs : List ℕ) (r : Ring k l q (
       let l₁ : List ℕ = set l a 0 in
       let l₂ : List ℕ = set l₁ q t in
       let l₃ : List ℕ = set l₂ (q + 1) (n - 1) in
-      let e₀ : get_or l₃ q 0 ≡ t = get_or_set_other l₂ (q + 1) q (n - 1) 0 (λ e. omega arith) ∙ get_or-set_same l₁ q t 0 (rw length-set (omega arith)) in
+      let e₀ : get_or l₃ q 0 ≡ t = get_or-set_other l₂ (q + 1) q (n - 1) 0 (λ e. omega arith) ∙ get_or-set_same l₁ q t 0 (rw length-set (omega arith)) in
       record {
         placed = record { lies = simp length-set p.lies; some = p.some; small = p.small; low = p.low; high = p.high };
         begins = rw e₀ m';
         count = get_or-set_same l₂ (q + 1) (n - 1) 0 (simp length-set (omega arith)) ∙ omega arith;
         fits = omega arith;
         slots = λ i h. rw e₀
-            (get_or_set_other l₂ (q + 1) (slot_from k q t i) (n - 1) 0 (λ e. omega arith)
-            ∙ get_or_set_other l₁ q (slot_from k q t i) t 0 (λ e. omega arith)
+            (get_or-set_other l₂ (q + 1) (slot_from k q t i) (n - 1) 0 (λ e. omega arith)
+            ∙ get_or-set_other l₁ q (slot_from k q t i) t 0 (λ e. omega arith)
             ∙ ap (λ (j : ℕ). get_or l₁ (q + (k.head + j)) 0) (mod-add-mod (s + 1) S i)
             ∙ same? (i + 1) S
             (λ e z.
@@ -228,7 +228,7 @@ module _ (k : Kind) (l : List ℕ) (q x : ℕ) (xs : List ℕ) (r : Ring k l q (
             rw g (get_or-set_same l a 0 0 (omega arith) ∙ sym (get_or-eq_default xs 0 {n = i} (omega arith))))
             (λ e z.
             let d : s + 1 + i ≡ s + (i + 1) = omega arith in
-            rw d (get_or_set_other l a (slot_from k q s (i + 1)) 0 0 (λ y. places_apart s (i + 1) 0 S (omega arith) (omega arith) (λ u. omega arith) (omega arith))
+            rw d (get_or-set_other l a (slot_from k q s (i + 1)) 0 0 (λ y. places_apart s (i + 1) 0 S (omega arith) (omega arith) (λ u. omega arith) (omega arith))
             ∙ r.slots (i + 1) (omega arith)
             ∙ ap (λ (j : ℕ). get_or (x ∷ xs) j 0) (add-one i))));
       }

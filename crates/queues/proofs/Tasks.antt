@@ -5,7 +5,7 @@ use mathlib.Core.List.{List, [], ◌∷◌, ◌++◌}
 use Prim.Native.Nat.{ℕ, ◌+◌, ◌-◌, ◌≤◌, ◌<◌}
 use native.Mathlib.Omega.{arith}
 use lib.ListN.{length, get_or, set}
-use lib.Seq.{get_or-set_same, get_or_set_other}
+use lib.Seq.{get_or-set_same, get_or-set_other}
 use Rattle.words.specs.Words.{more}
 use Rattle.settings.specs.declared.Settings.{Settings}
 use Rattle.layout.specs.Places.{gap_word, task_full_word}
@@ -52,7 +52,7 @@ module _ (s : Settings) (l : List ℕ) (q : ℕ) (xs : List ℕ) (t : TaskRing s
       record {
         ring = ring_off (task_kind s) l q xs t.ring a v o;
         first = t.first;
-        flag = get_or_set_other l a (q + gap_word) v 0 n ∙ t.flag;
+        flag = get_or-set_other l a (q + gap_word) v 0 n ∙ t.flag;
       }
 
   pub task_counted : (i : ℕ) → 3 ≤ i → i < 5 → TaskRing s (counted l (q + i)) q xs

@@ -6,7 +6,7 @@ use Prim.Native.Nat.{ℕ, suc, ◌+◌, ◌-◌, ◌%◌, ◌≤◌, ◌<◌}
 use native.Mathlib.Omega.{arith}
 use lib.Dec.{ltb}
 use lib.ListN.{length, get_or, set, length-set}
-use lib.Seq.{get_or_set_other}
+use lib.Seq.{get_or-set_other}
 use Rattle.words.proofs.Lists.{le_or_lt, both}
 use Rattle.queues.specs.declared.Kind.{Kind}
 use Rattle.queues.specs.Queue.{start, items, slot_at, item_at, run, contents, Queue}
@@ -90,12 +90,12 @@ length-dropped k l q = simp length-set
 -- ---- a word of the head behind the first two stays, but for the full count
 module _ (k : Kind) (l : List ℕ) (q i : ℕ) (lo : 2 ≤ i) (hi : i < k.head) where
   pub word_slot : (j v : ℕ) → get_or (set l (slot_at k l q j) v) (q + i) 0 ≡ get_or l (q + i) 0
-  word_slot j v = get_or_set_other l (slot_at k l q j) (q + i) v 0 (λ e. omega arith)
+  word_slot j v = get_or-set_other l (slot_at k l q j) (q + i) v 0 (λ e. omega arith)
 
   pub word-added : (x : ℕ) → get_or (added k l q x) (q + i) 0 ≡ get_or l (q + i) 0
   unfolding added
   word-added x =
-      get_or_set_other (set l (slot_at k l q (items k l q)) x) (q + 1) (q + i) (items k l q + 1) 0 (λ e. omega arith)
+      get_or-set_other (set l (slot_at k l q (items k l q)) x) (q + 1) (q + i) (items k l q + 1) 0 (λ e. omega arith)
       ∙ word_slot (items k l q) x
 
   pub word-dropped : get_or (dropped k l q) (q + i) 0 ≡ get_or l (q + i) 0
@@ -103,6 +103,6 @@ module _ (k : Kind) (l : List ℕ) (q i : ℕ) (lo : 2 ≤ i) (hi : i < k.head) 
   word-dropped =
       let l₁ : List ℕ = set l (slot_at k l q 0) 0 in
       let t : ℕ = (start k l q + 1) % k.slots in
-      get_or_set_other (set l₁ q t) (q + 1) (q + i) (items k l q - 1) 0 (λ e. omega arith)
-      ∙ get_or_set_other l₁ q (q + i) t 0 (λ e. omega arith)
+      get_or-set_other (set l₁ q t) (q + 1) (q + i) (items k l q - 1) 0 (λ e. omega arith)
+      ∙ get_or-set_other l₁ q (q + i) t 0 (λ e. omega arith)
       ∙ word_slot 0 0

@@ -16,14 +16,14 @@ use settings::Settings;
 use words::one_more;
 
 // A kind of queue: the words before its slots, its slots, and the word that counts the appends that found it full.
-#[derive(Drop)]
+#[derive(Clone, Copy)]
 pub struct Kind {
     pub head: usize,
     pub slots: usize,
     pub full: usize,
 }
 
-#[derive(Drop)]
+#[derive(Clone, Copy)]
 pub enum Appended {
     Done,
     Full,

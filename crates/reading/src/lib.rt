@@ -5,7 +5,7 @@ ghost use Rattle.std.specs.Prelude.{◌≡◌};
 ghost use Rattle.reading.specs.Read.{carried_of, step_at};
 
 // The node's stretch, the block that is read, and how many words are left.
-#[derive(Drop)]
+#[derive(Clone, Copy)]
 pub struct Reader<'a> {
     pub node: &'a [u32],
     pub block: u32,
@@ -13,7 +13,7 @@ pub struct Reader<'a> {
 }
 
 // What a step tells: how many of the words left the block carries, and the block that follows; or that none is left.
-#[derive(Drop)]
+#[derive(Clone, Copy)]
 pub enum Step {
     Words(usize, u32),
     End,

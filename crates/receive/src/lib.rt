@@ -21,7 +21,7 @@ use taking::Found;
 use tasks::Seat;
 
 // What a receive answers: the source and the body's length, or why not.
-#[derive(Drop)]
+#[derive(Clone, Copy)]
 pub enum Received {
     Done(u32, u32),
     NotSound,

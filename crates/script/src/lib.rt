@@ -8,7 +8,7 @@ use answers::Answer;
 use libc::STDOUT_FILENO;
 
 // What is read next: a word, the end, or an end in the midst of a word.
-#[derive(Drop)]
+#[derive(Clone, Copy)]
 pub enum Read {
     Word(u32),
     End,
@@ -16,7 +16,7 @@ pub enum Read {
 }
 
 // The arguments of a kind, and whether they were all there.
-#[derive(Drop)]
+#[derive(Clone, Copy)]
 pub struct Arguments {
     pub whole: bool,
     pub words: [u32; 5],

@@ -16,12 +16,12 @@ fn is_within(least: u32, greatest: u32, x: u32) -> bool
 }
 
 // B, words in a block, link included.
-#[derive(Drop)]
+#[derive(Clone, Copy)]
 pub struct BlockWords {
     pub value: usize,
 }
 
-#[derive(Drop)]
+#[derive(Clone, Copy)]
 pub enum MadeBlockWords {
     Made(BlockWords),
     Refused,
@@ -44,12 +44,12 @@ impl BlockWords {
 }
 
 // M, blocks in a node.
-#[derive(Drop)]
+#[derive(Clone, Copy)]
 pub struct NodeBlocks {
     pub value: usize,
 }
 
-#[derive(Drop)]
+#[derive(Clone, Copy)]
 pub enum MadeNodeBlocks {
     Made(NodeBlocks),
     Refused,
@@ -72,12 +72,12 @@ impl NodeBlocks {
 }
 
 // S, length of a send queue.
-#[derive(Drop)]
+#[derive(Clone, Copy)]
 pub struct SendLength {
     pub value: usize,
 }
 
-#[derive(Drop)]
+#[derive(Clone, Copy)]
 pub enum MadeSendLength {
     Made(SendLength),
     Refused,
@@ -100,12 +100,12 @@ impl SendLength {
 }
 
 // A, length of an acknowledge queue.
-#[derive(Drop)]
+#[derive(Clone, Copy)]
 pub struct AcknowledgeLength {
     pub value: usize,
 }
 
-#[derive(Drop)]
+#[derive(Clone, Copy)]
 pub enum MadeAcknowledgeLength {
     Made(AcknowledgeLength),
     Refused,
@@ -128,12 +128,12 @@ impl AcknowledgeLength {
 }
 
 // T, length of a task queue.
-#[derive(Drop)]
+#[derive(Clone, Copy)]
 pub struct TaskLength {
     pub value: usize,
 }
 
-#[derive(Drop)]
+#[derive(Clone, Copy)]
 pub enum MadeTaskLength {
     Made(TaskLength),
     Refused,
@@ -156,7 +156,7 @@ impl TaskLength {
 }
 
 // The five together, by the letters that the document gives them.
-#[derive(Drop)]
+#[derive(Clone, Copy)]
 pub struct Settings {
     pub b: usize,
     pub m: usize,
@@ -165,7 +165,7 @@ pub struct Settings {
     pub t: usize,
 }
 
-#[derive(Drop)]
+#[derive(Clone, Copy)]
 pub enum MadeSettings {
     Made(Settings),
     Refused,

@@ -12,7 +12,7 @@ ghost use Rattle.setup.specs.Outcome.{set_up, told};
 use answers::Answer;
 use settings::{MadeSettings, Settings};
 
-#[derive(Drop)]
+#[derive(Clone, Copy)]
 pub enum SetUp {
     Done,
     SettingOutOfRange,

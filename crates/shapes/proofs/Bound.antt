@@ -6,7 +6,7 @@ use Prim.Native.Nat.{ℕ, zero, suc, ◌+◌, ◌<◌}
 use native.Mathlib.Numerals.{add-one}
 use native.Mathlib.Omega.{arith}
 use lib.ListN.{length, get_or, get_or-replicate, length-set}
-use lib.Seq.{get_or-set_same, get_or_set_other}
+use lib.Seq.{get_or-set_same, get_or-set_other}
 use Rattle.words.proofs.Lists.{split, same?}
 use Rattle.layout.specs.Places.{task_ids}
 use Rattle.tasks.specs.Table.{node_of, queue_of, is_bound, right_table}
@@ -40,8 +40,8 @@ module _ (t : List ℕ) where
             (same? m i
             (λ a f. same? p q
             (λ b j. rw (f, j, a, b) (get_or-set_same l (seat_at i q) n 0 (omega arith)))
-            (λ b j. rw (f, j) (get_or_set_other l (seat_at m p) (seat_at i q) n 0 (λ o. b (omega arith)) ∙ g.is i q h k)))
-            (λ a f. rw f (get_or_set_other l (seat_at m p) (seat_at i q) n 0 (λ o. a (omega arith)) ∙ g.is i q h k))));
+            (λ b j. rw (f, j) (get_or-set_other l (seat_at m p) (seat_at i q) n 0 (λ o. b (omega arith)) ∙ g.is i q h k)))
+            (λ a f. rw f (get_or-set_other l (seat_at m p) (seat_at i q) n 0 (λ o. a (omega arith)) ∙ g.is i q h k))));
       }))
       (λ e. rw e (record { long = g.long; is = λ i q h k. rw (add-one n) (rw e (g.is i q h k)) }))
 

@@ -13,7 +13,7 @@ use queues::Kind;
 use settings::Settings;
 
 // A letter that the list shows: destination, source, place (1 task queue, 2 send queue), node holding it, first block, body length.
-#[derive(Drop)]
+#[derive(Clone, Copy)]
 pub struct Shown {
     pub destination: u32,
     pub source: u32,

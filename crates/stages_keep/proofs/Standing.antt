@@ -8,7 +8,7 @@ use mathlib.Core.List.{List, [], ◌∷◌, map}
 use Prim.Native.Nat.{ℕ, ◌+◌, ◌*◌, ◌≤◌, ◌<◌}
 use native.Mathlib.Omega.{arith}
 use lib.ListN.{length, get_or, set, take, length-set}
-use lib.Seq.{get_or-set_same, get_or_set_other}
+use lib.Seq.{get_or-set_same, get_or-set_other}
 use Rattle.words.proofs.Lists.{put, put_same, put_other, same?}
 use Rattle.settings.specs.declared.Settings.{Settings}
 use Rattle.layout.specs.Places.{memory_size, node_size, nodes_at, node, with_node}
@@ -46,7 +46,7 @@ module _ (m : List ℕ) (j : ℕ) (p : Position) where
   -- a word that is none of the three
   pub stand_word : (k : ℕ) → (k ≡ 6 + j * 3 → ⊥) → (k ≡ 6 + j * 3 + 1 → ⊥) → (k ≡ 6 + j * 3 + 2 → ⊥) → get_or (standing m j p) k 0 ≡ get_or m k 0
   unfolding standing
-  stand_word k x y z = get_or_set_other m₂ (a + 2) k p.held 0 z ∙ get_or_set_other m₁ (a + 1) k p.other 0 y ∙ get_or_set_other m a k p.stage 0 x
+  stand_word k x y z = get_or-set_other m₂ (a + 2) k p.held 0 z ∙ get_or-set_other m₁ (a + 1) k p.other 0 y ∙ get_or-set_other m a k p.stage 0 x
 
   module _ (h : j < 6) where
     pub stand_settings : settings_in (standing m j p) ≡ settings_in m
@@ -64,12 +64,12 @@ module _ (m : List ℕ) (j : ℕ) (p : Position) where
       pub stand_stage : stage_of (standing m j p) j ≡ p.stage
       unfolding standing
       stand_stage =
-          get_or_set_other m₂ (a + 2) a p.held 0 (λ e. omega arith) ∙ get_or_set_other m₁ (a + 1) a p.other 0 (λ e. omega arith) ∙ get_or-set_same m a p.stage 0 (omega arith)
+          get_or-set_other m₂ (a + 2) a p.held 0 (λ e. omega arith) ∙ get_or-set_other m₁ (a + 1) a p.other 0 (λ e. omega arith) ∙ get_or-set_same m a p.stage 0 (omega arith)
 
       pub stand_other : other_of (standing m j p) j ≡ p.other
       unfolding standing
       stand_other =
-          get_or_set_other m₂ (a + 2) (a + 1) p.held 0 (λ e. omega arith) ∙ get_or-set_same m₁ (a + 1) p.other 0 (omega (arith, length-set m a p.stage))
+          get_or-set_other m₂ (a + 2) (a + 1) p.held 0 (λ e. omega arith) ∙ get_or-set_same m₁ (a + 1) p.other 0 (omega (arith, length-set m a p.stage))
 
       pub stand_held : held_of (standing m j p) j ≡ p.held
       unfolding standing

@@ -11,14 +11,14 @@ ghost use Rattle.taking.specs.Take.{cleared, out, taken_out, Place};
 use queues::Kind;
 use settings::Settings;
 
-#[derive(Drop)]
+#[derive(Clone, Copy)]
 pub enum Found {
     At(usize),
     Nothing,
 }
 
 // What stands at a place: the wanted letter, something to pass over, or the queue's end.
-#[derive(Drop)]
+#[derive(Clone, Copy)]
 pub enum Seen {
     Here,
     Past,

@@ -7,7 +7,7 @@ use native.Mathlib.Numerals.{add-one}
 use native.Mathlib.Omega.{arith}
 use lib.Dec.{eqb, leb, ltb}
 use lib.ListN.{length, get_or, set, replicate, get_or-replicate, length-set}
-use lib.Seq.{get_or-set_same, get_or_set_other}
+use lib.Seq.{get_or-set_same, get_or-set_other}
 use borrow.Author.Tests.{eq-eqb, eqb-true, le-leb, lt-leb, leb-true, lt-ltb}
 use Rattle.words.specs.Words.{every}
 use Rattle.words.proofs.Lists.{split, same?, and-true, and-join, and-false, every_all, every-not}
@@ -116,10 +116,10 @@ module _ (t : List ℕ) where
               is = rw (add-one n) (rw (e, lt-ltb n task_ids low) (ap (λ (r : List ℕ). set r (seat n) n) g.is));
               free = λ k h y. same? k (seat n)
                   (λ q f. absurd (p (sym (get_or-set_same row (seat n) n 0 (omega arith)) ∙ rw q at y)))
-                  (λ q f. more_below (λ i. holds_none t i ≡ false → seat i ≡ k → ⊥) n (g.free k h (sym (get_or_set_other row (seat n) k n 0 q) ∙ y)) (λ f r. q (sym r)));
+                  (λ q f. more_below (λ i. holds_none t i ≡ false → seat i ≡ k → ⊥) n (g.free k h (sym (get_or-set_other row (seat n) k n 0 q) ∙ y)) (λ f r. q (sym r)));
               taken = λ k h y. same? k (seat n)
                   (λ q f. (n, (omega arith, (e, sym q))))
-                  (λ q f. let r = g.taken k h (λ x. y (get_or_set_other row (seat n) k n 0 q ∙ x)) in (r.0, (omega arith, r.1.1)));
+                  (λ q f. let r = g.taken k h (λ x. y (get_or-set_other row (seat n) k n 0 q ∙ x)) in (r.0, (omega arith, r.1.1)));
             }
 
         -- an id that sits where another does

@@ -73,7 +73,7 @@ pub fn is_right(table: &[u32]) -> bool
 }
 
 // Where a task sits.
-#[derive(Drop)]
+#[derive(Clone, Copy)]
 pub enum Seat {
     At(u32, u32),
     Unbound,

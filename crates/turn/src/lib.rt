@@ -13,7 +13,7 @@ use postman::{Position, Round, Stage};
 use settings::Settings;
 
 // What a turn answers: node, letters appended to task queues, blocks given back; first the number where it stopped.
-#[derive(Drop)]
+#[derive(Clone, Copy)]
 pub enum Turned {
     Finished(u32, u32, u32),
     Stopped(u32, u32, u32, u32),

@@ -22,14 +22,14 @@ use settings::Settings;
 use tasks::Seat;
 
 // What a visit answers: how many blocks of the node it did not come to, or that the chain is bad.
-#[derive(Drop)]
+#[derive(Clone, Copy)]
 pub enum Walk {
     Ended(usize),
     Bad,
 }
 
 // What a place asks of the header of a letter that stands there: nothing, the nodes that it goes between, or the task that it goes to.
-#[derive(Drop)]
+#[derive(Clone, Copy)]
 pub enum Asks {
     Any,
     Between(u32, u32),

@@ -14,10 +14,10 @@ pub loop-j-init : goal.loop-j-init
 loop-j-init c = (omega arith, every_none _)
 
 pub returns-then-not-is_right_copy : goal.returns-then-not-is_right_copy
-returns-then-not-is_right_copy c = turn_no (copy_right c.args.s c.args.memory.now) 6 c.loop-j.j (omega arith) _ c.is_right_copy.ensures (not-true _ c.if-not-is_right_copy.true)
+returns-then-not-is_right_copy c = turn_no (copy_right c.args.s c.args.memory.now) 6 c.loop-j.j (omega arith) _ c.is_right_copy.ensures (c.if-not-is_right_copy.true)
 
 pub loop-j-preserved : goal.loop-j-preserved
-loop-j-preserved c = (omega arith, turn_more (copy_right c.args.s c.args.memory.now) 6 c.loop-j.j c.loop-j.invariant.1 _ c.is_right_copy.ensures (not-false _ c.if-not-is_right_copy.false))
+loop-j-preserved c = (omega arith, turn_more (copy_right c.args.s c.args.memory.now) 6 c.loop-j.j c.loop-j.invariant.1 _ c.is_right_copy.ensures (c.if-not-is_right_copy.false))
 
 pub returns : goal.returns
 returns c = turn_all (copy_right c.args.s c.args.memory.now) 6 c.loop-j.j (omega arith) c.loop-j.invariant.1

@@ -26,7 +26,7 @@ pub is_same_block-requires : goal.is_same_block-requires
 is_same_block-requires c = let y = c in let x = c.args in let k = compare_blocks x.s x.a.now x.b x.c.now x.d c.loop-left.left c.loop-left.x c.loop-left.y c.loop-left.invariant (omega arith) in record { block = k.0; block_2 = k.1; n_bound = omega (arith, c.fewer-n.ensures) }
 
 pub returns-then-not-is_same_block : goal.returns-then-not-is_same_block
-returns-then-not-is_same_block c = let y = c in let x = c.args in compare_differs x.s x.a.now x.b x.c.now x.d c.loop-left.left c.loop-left.x c.loop-left.y c.loop-left.invariant (omega arith) _ c.fewer-n.ensures _ c.is_same_block.ensures (not-true _ c.if-not-is_same_block.true)
+returns-then-not-is_same_block c = let y = c in let x = c.args in compare_differs x.s x.a.now x.b x.c.now x.d c.loop-left.left c.loop-left.x c.loop-left.y c.loop-left.invariant (omega arith) _ c.fewer-n.ensures _ c.is_same_block.ensures (c.if-not-is_same_block.true)
 
 pub link_of-x-requires : goal.link_of-x-requires
 link_of-x-requires c = let y = c in let x = c.args in (compare_blocks x.s x.a.now x.b x.c.now x.d c.loop-left.left c.loop-left.x c.loop-left.y c.loop-left.invariant (omega arith)).0
@@ -41,7 +41,7 @@ pub loop-left-smaller : goal.loop-left-smaller
 loop-left-smaller c = let y = c in let x = c.args in let r = c.requires.readable.stretch.range.b.low in omega (arith, c.fewer-n.ensures)
 
 pub loop-left-preserved : goal.loop-left-preserved
-loop-left-preserved c = let y = c in let x = c.args in compare_goes x.s x.a.now x.b x.c.now x.d c.loop-left.left c.loop-left.x c.loop-left.y c.loop-left.invariant (omega arith) _ c.fewer-n.ensures _ c.is_same_block.ensures (not-false _ c.if-not-is_same_block.false) _ _ c.link_of-x.ensures c.link_of-y.ensures
+loop-left-preserved c = let y = c in let x = c.args in compare_goes x.s x.a.now x.b x.c.now x.d c.loop-left.left c.loop-left.x c.loop-left.y c.loop-left.invariant (omega arith) _ c.fewer-n.ensures _ c.is_same_block.ensures (c.if-not-is_same_block.false) _ _ c.link_of-x.ensures c.link_of-y.ensures
 
 pub returns : goal.returns
 returns c = let y = c in let x = c.args in compare_ends x.s x.a.now x.b x.c.now x.d c.loop-left.left c.loop-left.x c.loop-left.y c.loop-left.invariant (omega arith)

@@ -6,7 +6,7 @@ use borrow.Author.Rules.{rules}
 use Rattle.listing.proofs.list.Goals as goal
 
 pub returns-then-not-is_sound : goal.returns-then-not-is_sound
-returns-then-not-is_sound c = let x = c.args in not_sound_lem x.memory.now x.out.now (sym c.is_sound.ensures ∙ not-true _ c.if-not-is_sound.true)
+returns-then-not-is_sound c = let x = c.args in not_sound_lem x.memory.now x.out.now (sym c.is_sound.ensures ∙ c.if-not-is_sound.true)
 
 pub list_sound-requires : goal.list_sound-requires
-list_sound-requires c = sym c.is_sound.ensures ∙ not-false _ c.if-not-is_sound.false
+list_sound-requires c = sym c.is_sound.ensures ∙ c.if-not-is_sound.false

@@ -35,11 +35,11 @@ queue-of y =
     read_task x.args.s x.args.memory.now x.requires.0 x.args.i x.requires.1.1.0.0 x.args.q x.requires.1.1.0.1 y.before.before.task-kind.ensures y.before.task-at.ensures.is _ y.count-in.ensures
 
 pub task_at-at-requires : goal.task_at-at-requires
-task_at-at-requires c = let x = c in record { in_range = (asked-sized _ _ c.requires.asked).range; q_bound = c.requires.task_lt_task_ids.1.0.1 }
+task_at-at-requires c = let x = c in record { in_range = (asked-sized _ _ c.requires.asked).range; q_bound = c.requires.i_lt_nodes.1 }
 
 pub count_in-count-requires : goal.count_in-count-requires
 count_in-count-requires c =
-    let x = c in record { sized = asked-sized _ _ c.requires.asked; i_lt_nodes = c.requires.task_lt_task_ids.1.0.0; queue = task_queue c.args.s c.args.memory.now c.requires.asked c.args.i c.requires.task_lt_task_ids.1.0.0 c.args.q c.requires.task_lt_task_ids.1.0.1 c.task_kind-k.ensures c.task_at-at.ensures.is }
+    let x = c in record { sized = asked-sized _ _ c.requires.asked; i_lt_nodes = c.requires.i_lt_nodes.0; queue = task_queue c.args.s c.args.memory.now c.requires.asked c.args.i c.requires.i_lt_nodes.0 c.args.q c.requires.i_lt_nodes.1 c.task_kind-k.ensures c.task_at-at.ensures.is }
 
 pub loop-c-init : goal.loop-c-init
 loop-c-init c =
@@ -49,17 +49,17 @@ loop-c-init c =
 pub item_in-b-requires : goal.item_in-b-requires
 item_in-b-requires c =
     let q = queue-of c in
-    let x = c in record { sized = asked-sized _ _ c.requires.asked; i_lt_nodes = c.requires.task_lt_task_ids.1.0.0; queue = q.queue; c_lt_slots = (read_place q c.loop-c.c c.loop-c-test.true).0 }
+    let x = c in record { sized = asked-sized _ _ c.requires.asked; i_lt_nodes = c.requires.i_lt_nodes.0; queue = q.queue; c_lt_slots = (read_place q c.loop-c.c c.loop-c-test.true).0 }
 
 pub shown_at-x-requires : goal.shown_at-x-requires
 shown_at-x-requires c =
     let x = c in
-    kept-begins c.args.s c.args.memory.now c.requires.asked c.args.i c.requires.task_lt_task_ids.1.0.0 c.args.q c.requires.task_lt_task_ids.1.0.1 (queue-of c) c.loop-c.c _ c.loop-c-test.true c.item_in-b.ensures c.if-b-ne0.true
+    kept-begins c.args.s c.args.memory.now c.requires.asked c.args.i c.requires.i_lt_nodes.0 c.args.q c.requires.i_lt_nodes.1 (queue-of c) c.loop-c.c _ c.loop-c-test.true c.item_in-b.ensures c.if-b-ne0.true
 
 pub list_letter-requires : goal.list_letter-requires
 list_letter-requires c =
     let x = c in
-    let l = c.loop-c in record { destination_lt_task_ids = shown_for c.args.s c.args.memory.now c.args.task _ c.args.i _ _ c.shown_at-x.ensures c.requires.task_lt_task_ids.0; low = so_kept c.args.s c.args.memory.now (task_kind c.args.s) (node c.args.s c.args.memory.now c.args.i) (task_at c.args.s c.args.q) l.c c.args.ranks.now c.args.out.now l.ranks l.out (read_place (queue-of c) l.c c.loop-c-test.true).1 c.requires.task_lt_task_ids.1.1 c.args.task c.args.i l.invariant.1 }
+    let l = c.loop-c in record { destination_lt_task_ids = shown_for c.args.s c.args.memory.now c.args.task _ c.args.i _ _ c.shown_at-x.ensures c.requires.task_lt_task_ids; low = so_kept c.args.s c.args.memory.now (task_kind c.args.s) (node c.args.s c.args.memory.now c.args.i) (task_at c.args.s c.args.q) l.c c.args.ranks.now c.args.out.now l.ranks l.out (read_place (queue-of c) l.c c.loop-c-test.true).1 c.requires.low c.args.task c.args.i l.invariant.1 }
 
 pub overflow_add-c : goal.overflow_add-c
 overflow_add-c c = omega (arith, (read_place (queue-of c) c.loop-c.c c.loop-c-test.true).1)

@@ -29,10 +29,10 @@ pub are_right_letters-requires : goal.are_right_letters-requires
 are_right_letters-requires c = let y = c in let x = c.args in record { looked = c.requires.looked; i_lt_nodes = c.requires.i_lt_nodes; stands = rw (c.send_kind.ensures, c.send_at.ensures.is) (send-place x.s x.memory.now x.i c.requires.looked c.requires.i_lt_nodes c.loop-k.k (omega arith)).stands }
 
 pub returns-then-not-are_right_letters : goal.returns-then-not-are_right_letters
-returns-then-not-are_right_letters c = let y = c in let x = c.args in range_bad x.s x.memory.now x.i x.marks.now 1 6 c.loop-k.marks c.loop-k.k c.loop-k.invariant.1 c.loop-k.invariant.2 _ _ (judged_at x.s x.memory.now x.i (1 + c.loop-k.k) _ (send-place x.s x.memory.now x.i c.requires.looked c.requires.i_lt_nodes c.loop-k.k (omega arith)) c.loop-k.marks _ _ (rw (c.send_kind.ensures, c.send_at.ensures.is) at c.are_right_letters.ensures)) (omega arith) (not-true _ c.if-not-are_right_letters.true)
+returns-then-not-are_right_letters c = let y = c in let x = c.args in range_bad x.s x.memory.now x.i x.marks.now 1 6 c.loop-k.marks c.loop-k.k c.loop-k.invariant.1 c.loop-k.invariant.2 _ _ (judged_at x.s x.memory.now x.i (1 + c.loop-k.k) _ (send-place x.s x.memory.now x.i c.requires.looked c.requires.i_lt_nodes c.loop-k.k (omega arith)) c.loop-k.marks _ _ (rw (c.send_kind.ensures, c.send_at.ensures.is) at c.are_right_letters.ensures)) (omega arith) (c.if-not-are_right_letters.true)
 
 pub loop-k-preserved : goal.loop-k-preserved
-loop-k-preserved c = let y = c in let x = c.args in let w = range_next x.s x.memory.now x.i x.marks.now 1 6 c.loop-k.marks c.loop-k.k c.loop-k.invariant.1 c.loop-k.invariant.2 _ _ (judged_at x.s x.memory.now x.i (1 + c.loop-k.k) _ (send-place x.s x.memory.now x.i c.requires.looked c.requires.i_lt_nodes c.loop-k.k (omega arith)) c.loop-k.marks _ _ (rw (c.send_kind.ensures, c.send_at.ensures.is) at c.are_right_letters.ensures)) (not-false _ c.if-not-are_right_letters.false) in
+loop-k-preserved c = let y = c in let x = c.args in let w = range_next x.s x.memory.now x.i x.marks.now 1 6 c.loop-k.marks c.loop-k.k c.loop-k.invariant.1 c.loop-k.invariant.2 _ _ (judged_at x.s x.memory.now x.i (1 + c.loop-k.k) _ (send-place x.s x.memory.now x.i c.requires.looked c.requires.i_lt_nodes c.loop-k.k (omega arith)) c.loop-k.marks _ _ (rw (c.send_kind.ensures, c.send_at.ensures.is) at c.are_right_letters.ensures)) (c.if-not-are_right_letters.false) in
     (omega arith, w.0, w.1)
 
 pub returns : goal.returns

@@ -32,10 +32,10 @@ pub are_right_letters-requires : goal.are_right_letters-requires
 are_right_letters-requires c = let y = c in let x = c.args in record { looked = c.requires.looked; i_lt_nodes = c.requires.small; stands = rw (c.task_kind.ensures, c.task_at.ensures.is, c.task_on.ensures) (task_place x.s x.memory.now x.i c.requires.looked c.requires.small x.seats.now c.requires.seats c.loop-q.q (omega arith)).stands }
 
 pub returns-then-not-are_right_letters : goal.returns-then-not-are_right_letters
-returns-then-not-are_right_letters c = let y = c in let x = c.args in range_bad x.s x.memory.now x.i x.marks.now 13 64 c.loop-q.marks c.loop-q.q c.loop-q.invariant.1 c.loop-q.invariant.2 _ _ (judged_at x.s x.memory.now x.i (13 + c.loop-q.q) _ (task_place x.s x.memory.now x.i c.requires.looked c.requires.small x.seats.now c.requires.seats c.loop-q.q (omega arith)) c.loop-q.marks _ _ (rw (c.task_kind.ensures, c.task_at.ensures.is, c.task_on.ensures) at c.are_right_letters.ensures)) (omega arith) (not-true _ c.if-not-are_right_letters.true)
+returns-then-not-are_right_letters c = let y = c in let x = c.args in range_bad x.s x.memory.now x.i x.marks.now 13 64 c.loop-q.marks c.loop-q.q c.loop-q.invariant.1 c.loop-q.invariant.2 _ _ (judged_at x.s x.memory.now x.i (13 + c.loop-q.q) _ (task_place x.s x.memory.now x.i c.requires.looked c.requires.small x.seats.now c.requires.seats c.loop-q.q (omega arith)) c.loop-q.marks _ _ (rw (c.task_kind.ensures, c.task_at.ensures.is, c.task_on.ensures) at c.are_right_letters.ensures)) (omega arith) (c.if-not-are_right_letters.true)
 
 pub loop-q-preserved : goal.loop-q-preserved
-loop-q-preserved c = let y = c in let x = c.args in let w = range_next x.s x.memory.now x.i x.marks.now 13 64 c.loop-q.marks c.loop-q.q c.loop-q.invariant.1 c.loop-q.invariant.2 _ _ (judged_at x.s x.memory.now x.i (13 + c.loop-q.q) _ (task_place x.s x.memory.now x.i c.requires.looked c.requires.small x.seats.now c.requires.seats c.loop-q.q (omega arith)) c.loop-q.marks _ _ (rw (c.task_kind.ensures, c.task_at.ensures.is, c.task_on.ensures) at c.are_right_letters.ensures)) (not-false _ c.if-not-are_right_letters.false) in
+loop-q-preserved c = let y = c in let x = c.args in let w = range_next x.s x.memory.now x.i x.marks.now 13 64 c.loop-q.marks c.loop-q.q c.loop-q.invariant.1 c.loop-q.invariant.2 _ _ (judged_at x.s x.memory.now x.i (13 + c.loop-q.q) _ (task_place x.s x.memory.now x.i c.requires.looked c.requires.small x.seats.now c.requires.seats c.loop-q.q (omega arith)) c.loop-q.marks _ _ (rw (c.task_kind.ensures, c.task_at.ensures.is, c.task_on.ensures) at c.are_right_letters.ensures)) (c.if-not-are_right_letters.false) in
     (omega arith, w.0, w.1)
 
 pub returns : goal.returns

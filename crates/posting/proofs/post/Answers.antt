@@ -16,13 +16,13 @@ pub count_up-requires : goal.count_up-requires
 count_up-requires c = let x = c in omega (arith, head_fits c.args.s, c.requires.aims.stretch.long)
 
 pub returns-then-not-has_blocks : goal.returns-then-not-has_blocks
-returns-then-not-has_blocks c = let x = c in post-few c.args.s c.args.node.now c.args.goal (letter_of c.args.header c.args.body.now) _ (c.needs_of-n.ensures ∙ needs_made c.args.header c.args.body.now c.args.s) _ (sym (not-true _ c.if-not-has_blocks.true) ∙ c.has_blocks.ensures) c.count_up.ensures
+returns-then-not-has_blocks c = let x = c in post-few c.args.s c.args.node.now c.args.goal (letter_of c.args.header c.args.body.now) _ (c.needs_of-n.ensures ∙ needs_made c.args.header c.args.body.now c.args.s) _ (sym (c.if-not-has_blocks.true) ∙ c.has_blocks.ensures) c.count_up.ensures
 
 pub returns-then-not-has_room : goal.returns-then-not-has_room
-returns-then-not-has_room c = let x = c in post_full c.args.s c.args.node.now c.args.goal (letter_of c.args.header c.args.body.now) _ (c.needs_of-n.ensures ∙ needs_made c.args.header c.args.body.now c.args.s) _ (sym (not-false _ c.if-not-has_blocks.false) ∙ c.has_blocks.ensures) (sym (not-true _ c.if-not-has_room.true) ∙ c.has_room.ensures) c.count_full.ensures
+returns-then-not-has_room c = let x = c in post_full c.args.s c.args.node.now c.args.goal (letter_of c.args.header c.args.body.now) _ (c.needs_of-n.ensures ∙ needs_made c.args.header c.args.body.now c.args.s) _ (sym (c.if-not-has_blocks.false) ∙ c.has_blocks.ensures) (sym (c.if-not-has_room.true) ∙ c.has_room.ensures) c.count_full.ensures
 
 pub put_in-requires : goal.put_in-requires
-put_in-requires c = let x = c in record { posts = c.requires; has = rw c.needs_of-n.ensures at (sym c.has_blocks.ensures ∙ not-false _ c.if-not-has_blocks.false) }
+put_in-requires c = let x = c in record { posts = c.requires; has = rw c.needs_of-n.ensures at (sym c.has_blocks.ensures ∙ c.if-not-has_blocks.false) }
 
 pub returns : goal.returns
-returns c = let x = c in post-done c.args.s c.args.node.now c.args.goal (letter_of c.args.header c.args.body.now) _ (c.needs_of-n.ensures ∙ needs_made c.args.header c.args.body.now c.args.s) _ (sym (not-false _ c.if-not-has_blocks.false) ∙ c.has_blocks.ensures) (sym (not-false _ c.if-not-has_room.false) ∙ c.has_room.ensures) c.put_in.ensures
+returns c = let x = c in post-done c.args.s c.args.node.now c.args.goal (letter_of c.args.header c.args.body.now) _ (c.needs_of-n.ensures ∙ needs_made c.args.header c.args.body.now c.args.s) _ (sym (c.if-not-has_blocks.false) ∙ c.has_blocks.ensures) (sym (c.if-not-has_room.false) ∙ c.has_room.ensures) c.put_in.ensures

@@ -26,10 +26,10 @@ pub body_fits-requires : goal.body_fits-requires
 body_fits-requires c = let x = c in rw c.settings_in-s.ensures (gives_range c.args.memory.now c.requires)
 
 pub returns-then-not-body_fits : goal.returns-then-not-body_fits
-returns-then-not-body_fits c = let x = c in out_body c.args.memory.now c.requires c.args.source c.args.destination c.args.body.now _ _ (sym c.seat_of.ensures ∙ c.in-At.is) _ _ (sym c.seat_of-2.ensures ∙ c.in-At-seat_of.is) _ c.settings_in-s.ensures (sym (not-true _ c.if-not-body_fits.true) ∙ c.body_fits.ensures)
+returns-then-not-body_fits c = let x = c in out_body c.args.memory.now c.requires c.args.source c.args.destination c.args.body.now _ _ (sym c.seat_of.ensures ∙ c.in-At.is) _ _ (sym c.seat_of-2.ensures ∙ c.in-At-seat_of.is) _ c.settings_in-s.ensures (sym (c.if-not-body_fits.true) ∙ c.body_fits.ensures)
 
 pub send_letter-requires : goal.send_letter-requires
-send_letter-requires c = let x = c in gives_delivers c.args.memory.now c.requires c.args.source c.args.destination c.args.body.now _ _ (sym c.seat_of.ensures ∙ c.in-At.is) _ _ (sym c.seat_of-2.ensures ∙ c.in-At-seat_of.is) _ c.settings_in-s.ensures (sym (not-false _ c.if-not-body_fits.false) ∙ c.body_fits.ensures) _ c.goal_of.ensures
+send_letter-requires c = let x = c in gives_delivers c.args.memory.now c.requires c.args.source c.args.destination c.args.body.now _ _ (sym c.seat_of.ensures ∙ c.in-At.is) _ _ (sym c.seat_of-2.ensures ∙ c.in-At-seat_of.is) _ c.settings_in-s.ensures (sym (c.if-not-body_fits.false) ∙ c.body_fits.ensures) _ c.goal_of.ensures
 
 pub returns : goal.returns
-returns c = let x = c in out-done c.args.memory.now c.requires c.args.source c.args.destination c.args.body.now _ _ (sym c.seat_of.ensures ∙ c.in-At.is) _ _ (sym c.seat_of-2.ensures ∙ c.in-At-seat_of.is) _ c.settings_in-s.ensures (sym (not-false _ c.if-not-body_fits.false) ∙ c.body_fits.ensures) _ c.goal_of.ensures _ c.send_letter.ensures
+returns c = let x = c in out-done c.args.memory.now c.requires c.args.source c.args.destination c.args.body.now _ _ (sym c.seat_of.ensures ∙ c.in-At.is) _ _ (sym c.seat_of-2.ensures ∙ c.in-At-seat_of.is) _ c.settings_in-s.ensures (sym (c.if-not-body_fits.false) ∙ c.body_fits.ensures) _ c.goal_of.ensures _ c.send_letter.ensures

@@ -18,7 +18,7 @@ returns-in_default c =
 pub returns-then-not-is_right : goal.returns-then-not-is_right
 returns-then-not-is_right c =
     let k = told_made c.args.b c.args.m c.args.s c.args.a c.args.t c.in-Made.settings (sym c.new.ensures ∙ c.in-Made.is) in
-    out-table (settings_of c.args.b c.args.m c.args.s c.args.a c.args.t) c.args.table.now c.args.memory.now k.0 (sym c.is_right.ensures ∙ not-true _ c.if-not-is_right.true)
+    out-table (settings_of c.args.b c.args.m c.args.s c.args.a c.args.t) c.args.table.now c.args.memory.now k.0 (sym c.is_right.ensures ∙ c.if-not-is_right.true)
 
 pub memory_size-requires : goal.memory_size-requires
 memory_size-requires c =
@@ -28,15 +28,15 @@ memory_size-requires c =
 pub returns-then-memory-memory_size : goal.returns-then-memory-memory_size
 returns-then-memory-memory_size c =
     let k = told_made c.args.b c.args.m c.args.s c.args.a c.args.t c.in-Made.settings (sym c.new.ensures ∙ c.in-Made.is) in
-    out-size (settings_of c.args.b c.args.m c.args.s c.args.a c.args.t) c.args.table.now c.args.memory.now k.0 (sym c.is_right.ensures ∙ not-false _ c.if-not-is_right.false)
+    out-size (settings_of c.args.b c.args.m c.args.s c.args.a c.args.t) c.args.table.now c.args.memory.now k.0 (sym c.is_right.ensures ∙ c.if-not-is_right.false)
     (λ e. c.if-memory-memory_size.true (e ∙ ap memory_size k.1 ∙ sym c.memory_size.ensures))
 
 pub lay_memory-requires : goal.lay_memory-requires
 lay_memory-requires c =
-    let k = told_made c.args.b c.args.m c.args.s c.args.a c.args.t c.in-Made.settings (sym c.new.ensures ∙ c.in-Made.is) in record { sized = record { range = range-true _ (rw k.1 at k.0); long = c.if-memory-memory_size.false ∙ c.memory_size.ensures }; table_len = right_length_lem _ (sym c.is_right.ensures ∙ not-false _ c.if-not-is_right.false) }
+    let k = told_made c.args.b c.args.m c.args.s c.args.a c.args.t c.in-Made.settings (sym c.new.ensures ∙ c.in-Made.is) in record { sized = record { range = range-true _ (rw k.1 at k.0); long = c.if-memory-memory_size.false ∙ c.memory_size.ensures }; table_len = right_length_lem _ (sym c.is_right.ensures ∙ c.if-not-is_right.false) }
 
 pub returns : goal.returns
 returns c =
     let k = told_made c.args.b c.args.m c.args.s c.args.a c.args.t c.in-Made.settings (sym c.new.ensures ∙ c.in-Made.is) in
-    out-done (settings_of c.args.b c.args.m c.args.s c.args.a c.args.t) c.args.table.now c.args.memory.now k.0 (sym c.is_right.ensures ∙ not-false _ c.if-not-is_right.false) c.lay_memory.new.0
+    out-done (settings_of c.args.b c.args.m c.args.s c.args.a c.args.t) c.args.table.now c.args.memory.now k.0 (sym c.is_right.ensures ∙ c.if-not-is_right.false) c.lay_memory.new.0
     (c.if-memory-memory_size.false ∙ c.memory_size.ensures ∙ ap memory_size (sym k.1)) (c.lay_memory.ensures ∙ ap (λ g. fresh_memory g c.args.table.now) (sym k.1))

@@ -31,7 +31,7 @@ returns-then-not-is_right_seat c =
     let t = c in
     turn_no _ 64 c.loop-q.q (omega arith) c.is_right_seat.result
     (rw (← c.task_kind-kind.ensures, ← c.task_at-at.ensures.is) c.is_right_seat.ensures)
-    (not-true _ c.if-not-is_right_seat.true)
+    (c.if-not-is_right_seat.true)
 
 pub loop-q-preserved : goal.loop-q-preserved
 loop-q-preserved c =
@@ -39,7 +39,7 @@ loop-q-preserved c =
       omega arith,
       turn_more _ 64 c.loop-q.q c.loop-q.invariant.1 c.is_right_seat.result
           (rw (← c.task_kind-kind.ensures, ← c.task_at-at.ensures.is) c.is_right_seat.ensures)
-          (not-false _ c.if-not-is_right_seat.false),
+          (c.if-not-is_right_seat.false),
     )
 
 pub returns : goal.returns

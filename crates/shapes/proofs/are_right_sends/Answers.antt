@@ -29,7 +29,7 @@ returns-then-not-is_right_post c =
     let t = c in
     turn_no _ 6 c.loop-k.k (omega arith) c.is_right_post.result
     (rw (← c.send_kind-kind.ensures, ← c.send_at-q.ensures.is) c.is_right_post.ensures)
-    (not-true _ c.if-not-is_right_post.true)
+    (c.if-not-is_right_post.true)
 
 pub loop-k-preserved : goal.loop-k-preserved
 loop-k-preserved c =
@@ -37,7 +37,7 @@ loop-k-preserved c =
       omega arith,
       turn_more _ 6 c.loop-k.k c.loop-k.invariant.1 c.is_right_post.result
           (rw (← c.send_kind-kind.ensures, ← c.send_at-q.ensures.is) c.is_right_post.ensures)
-          (not-false _ c.if-not-is_right_post.false),
+          (c.if-not-is_right_post.false),
     )
 
 pub returns : goal.returns

@@ -8,18 +8,18 @@ use Rattle.shapes.proofs.Steps.{post_shape, post_own, post_other}
 use Rattle.shapes.proofs.is_right_post.Goals as goal
 
 pub returns-then-not-is_in_shape : goal.returns-then-not-is_in_shape
-returns-then-not-is_in_shape c = post_shape _ _ _ _ _ (sym c.is_in_shape.ensures ∙ not-true _ c.if-not-is_in_shape.true)
+returns-then-not-is_in_shape c = post_shape _ _ _ _ _ (sym c.is_in_shape.ensures ∙ c.if-not-is_in_shape.true)
 
 pub items_of-requires : goal.items_of-requires
-items_of-requires c = shape_queue _ _ _ c.requires (sym c.is_in_shape.ensures ∙ not-false _ c.if-not-is_in_shape.false)
+items_of-requires c = shape_queue _ _ _ c.requires (sym c.is_in_shape.ensures ∙ c.if-not-is_in_shape.false)
 
 pub returns-then-own : goal.returns-then-own
 returns-then-own c =
     ap (λ n. eqb n 0) c.items_of.ensures
-    ∙ post_own _ _ _ _ _ (sym c.is_in_shape.ensures ∙ not-false _ c.if-not-is_in_shape.false) c.if-own.true
+    ∙ post_own _ _ _ _ _ (sym c.is_in_shape.ensures ∙ c.if-not-is_in_shape.false) c.if-own.true
 
 pub are_within-requires : goal.are_within-requires
-are_within-requires c = shape_queue _ _ _ c.requires (sym c.is_in_shape.ensures ∙ not-false _ c.if-not-is_in_shape.false)
+are_within-requires c = shape_queue _ _ _ c.requires (sym c.is_in_shape.ensures ∙ c.if-not-is_in_shape.false)
 
 pub returns : goal.returns
-returns c = post_other _ _ _ _ _ (sym c.is_in_shape.ensures ∙ not-false _ c.if-not-is_in_shape.false) c.if-own.false _ c.are_within.ensures
+returns c = post_other _ _ _ _ _ (sym c.is_in_shape.ensures ∙ c.if-not-is_in_shape.false) c.if-own.false _ c.are_within.ensures

@@ -11,7 +11,7 @@ pub items_of-requires : goal.items_of-requires
 items_of-requires c =
     let x = c in
     let e = node-part c.args.s c.args.memory.now c.args.i _ _ c.node_at-a.ensures.is c.node_size.ensures.is in
-    rw e c.requires.i_lt_nodes.1
+    rw e c.requires.queue
 
 pub returns : goal.returns
 returns c =

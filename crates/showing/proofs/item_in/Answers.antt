@@ -10,7 +10,7 @@ use Rattle.showing.proofs.item_in.Goals as goal
 pub item-requires : goal.item-requires
 item-requires c =
     let x = c in
-    let e = node-part c.args.s c.args.memory.now c.args.i _ _ c.node_at-a.ensures.is c.node_size.ensures.is in record { queue = rw e c.requires.i_lt_nodes.1.0; i_lt_slots = c.requires.i_lt_nodes.1.1 }
+    let e = node-part c.args.s c.args.memory.now c.args.i _ _ c.node_at-a.ensures.is c.node_size.ensures.is in record { queue = rw e c.requires.queue; i_lt_slots = c.requires.c_lt_slots }
 
 pub returns : goal.returns
 returns c =

@@ -15,11 +15,11 @@ loop-i-init c = (omega arith, every_none _)
 
 pub returns-then-not-is_right_node : goal.returns-then-not-is_right_node
 unfolding node_right
-returns-then-not-is_right_node c = turn_no (node_right c.args.s c.args.memory.now) 6 c.loop-i.i (omega arith) _ c.is_right_node.ensures (not-true _ c.if-not-is_right_node.true)
+returns-then-not-is_right_node c = turn_no (node_right c.args.s c.args.memory.now) 6 c.loop-i.i (omega arith) _ c.is_right_node.ensures (c.if-not-is_right_node.true)
 
 pub loop-i-preserved : goal.loop-i-preserved
 unfolding node_right
-loop-i-preserved c = (omega arith, turn_more (node_right c.args.s c.args.memory.now) 6 c.loop-i.i c.loop-i.invariant.1 _ c.is_right_node.ensures (not-false _ c.if-not-is_right_node.false))
+loop-i-preserved c = (omega arith, turn_more (node_right c.args.s c.args.memory.now) 6 c.loop-i.i c.loop-i.invariant.1 _ c.is_right_node.ensures (c.if-not-is_right_node.false))
 
 pub returns : goal.returns
 returns c = turn_all (node_right c.args.s c.args.memory.now) 6 c.loop-i.i (omega arith) c.loop-i.invariant.1

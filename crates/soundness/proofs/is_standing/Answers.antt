@@ -36,13 +36,13 @@ pub returns-then-stage-gt3 : goal.returns-then-stage-gt3
 returns-then-stage-gt3 c = stand_high c.args.s c.args.memory.now c.args.j c.if-stage-eq0.false c.if-stage-gt3.true
 
 pub returns-then-not-is_other : goal.returns-then-not-is_other
-returns-then-not-is_other c = stand_other c.args.s c.args.memory.now c.args.j c.if-stage-eq0.false c.if-stage-gt3.false (sym c.is_other.ensures ∙ not-true _ c.if-not-is_other.true)
+returns-then-not-is_other c = stand_other c.args.s c.args.memory.now c.args.j c.if-stage-eq0.false c.if-stage-gt3.false (sym c.is_other.ensures ∙ c.if-not-is_other.true)
 
 pub returns-then-held-lt1 : goal.returns-then-held-lt1
-returns-then-held-lt1 c = stand_empty c.args.s c.args.memory.now c.args.j c.if-stage-eq0.false c.if-stage-gt3.false (sym c.is_other.ensures ∙ not-false _ c.if-not-is_other.false) c.if-stage-eq2.true c.if-held-lt1.true
+returns-then-held-lt1 c = stand_empty c.args.s c.args.memory.now c.args.j c.if-stage-eq0.false c.if-stage-gt3.false (sym c.is_other.ensures ∙ c.if-not-is_other.false) c.if-stage-eq2.true c.if-held-lt1.true
 
 pub returns-then-stage-eq2 : goal.returns-then-stage-eq2
-returns-then-stage-eq2 c = stand_holds c.args.s c.args.memory.now c.args.j c.if-stage-eq0.false c.if-stage-gt3.false (sym c.is_other.ensures ∙ not-false _ c.if-not-is_other.false) c.if-stage-eq2.true c.if-held-lt1.false
+returns-then-stage-eq2 c = stand_holds c.args.s c.args.memory.now c.args.j c.if-stage-eq0.false c.if-stage-gt3.false (sym c.is_other.ensures ∙ c.if-not-is_other.false) c.if-stage-eq2.true c.if-held-lt1.false
 
 pub returns : goal.returns
-returns c = stand_free c.args.s c.args.memory.now c.args.j c.if-stage-eq0.false c.if-stage-gt3.false (sym c.is_other.ensures ∙ not-false _ c.if-not-is_other.false) c.if-stage-eq2.false
+returns c = stand_free c.args.s c.args.memory.now c.args.j c.if-stage-eq0.false c.if-stage-gt3.false (sym c.is_other.ensures ∙ c.if-not-is_other.false) c.if-stage-eq2.false

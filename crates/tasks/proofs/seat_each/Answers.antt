@@ -10,19 +10,19 @@ use Rattle.tasks.proofs.Marks.{Good, good_start, good_none, good-seat, bad_seat,
 use Rattle.tasks.proofs.seat_each.Goals as goal
 
 pub loop-id-init : goal.loop-id-init
-loop-id-init c = (omega arith, good_start _ _ c.requires.table_value.1)
+loop-id-init c = (omega arith, good_start _ _ c.requires.seats_value)
 
 pub returns-then-node-gt5 : goal.returns-then-node-gt5
-returns-then-node-gt5 c = record { answer = bad_node _ _ (omega arith) (sym c.holds_none.ensures ∙ not-true _ c.if-not-holds_none.true) (omega arith); row = λ z. absurd (false≢true z) }
+returns-then-node-gt5 c = record { answer = bad_node _ _ (omega arith) (sym c.holds_none.ensures ∙ c.if-not-holds_none.true) (omega arith); row = λ z. absurd (false≢true z) }
 
 pub returns-then-queue-gt63 : goal.returns-then-queue-gt63
-returns-then-queue-gt63 c = record { answer = bad_queue _ _ (omega arith) (sym c.holds_none.ensures ∙ not-true _ c.if-not-holds_none.true) (omega arith); row = λ z. absurd (false≢true z) }
+returns-then-queue-gt63 c = record { answer = bad_queue _ _ (omega arith) (sym c.holds_none.ensures ∙ c.if-not-holds_none.true) (omega arith); row = λ z. absurd (false≢true z) }
 
 pub returns-then-seats-seat-ne0 : goal.returns-then-seats-seat-ne0
-returns-then-seats-seat-ne0 c = record { answer = bad_seat _ _ _ c.loop-id.invariant.1 (sym c.holds_none.ensures ∙ not-true _ c.if-not-holds_none.true) (omega arith) (omega arith) (omega arith) c.if-seats-seat-ne0.true; row = λ z. absurd (false≢true z) }
+returns-then-seats-seat-ne0 c = record { answer = bad_seat _ _ _ c.loop-id.invariant.1 (sym c.holds_none.ensures ∙ c.if-not-holds_none.true) (omega arith) (omega arith) (omega arith) c.if-seats-seat-ne0.true; row = λ z. absurd (false≢true z) }
 
 pub loop-id-preserved : goal.loop-id-preserved
-loop-id-preserved c = ⊎_elim (λ w. (omega arith, rw w.7 (good-seat _ _ _ c.loop-id.invariant.1 (sym c.holds_none.ensures ∙ not-true _ w.0.taken) (omega arith) (omega arith) (omega arith) c.requires.table_value.0 w.6.left))) (λ w. (omega arith, rw w.1 (good_none _ _ _ c.loop-id.invariant.1 (sym c.holds_none.ensures ∙ not-false _ w.0.left)))) c.if-not-holds_none.branch
+loop-id-preserved c = ⊎_elim (λ w. (omega arith, rw w.7 (good-seat _ _ _ c.loop-id.invariant.1 (sym c.holds_none.ensures ∙ not-true _ w.0.taken) (omega arith) (omega arith) (omega arith) c.requires.table_value w.6.left))) (λ w. (omega arith, rw w.1 (good_none _ _ _ c.loop-id.invariant.1 (sym c.holds_none.ensures ∙ not-false _ w.0.left)))) c.if-not-holds_none.branch
 
 pub returns : goal.returns
 returns c = let q : c.loop-id.id ≡ 256 = omega arith in let g = rw q at c.loop-id.invariant.1 in record { answer = good_end _ _ g; row = λ z. g.is }
