@@ -6,8 +6,8 @@ use Rattle.queues.specs.Items.{live}
 use Rattle.queues.specs.Queue.{run, items}
 use Prim.Native.Nat.{◌-◌, ◌≤◌}
 use native.Mathlib.Omega.{arith}
-use mathlib.Core.Logic.{⊎_elim}
 use mathlib.Core.Path.{◌≡◌}
+use Rattle.gaps.proofs.gather.Goals.{then-x-ne0, else-x-ne0}
 use Rattle.gaps.proofs.gather.Goals as goal
 
 pub loop-i-init : goal.loop-i-init
@@ -19,7 +19,10 @@ loop-i-preserved c =
     let x = c.args in
     let o = c.loop-i in
     let p = c.item-x.ensures in
-    ⊎_elim (λ w. (omega arith, omega arith, rw (w.1, w.2) (gather_some x.k x.node.now x.q o.i o.invariant.2 p w.0.taken (omega arith)))) (λ w. (omega arith, omega arith, rw (w.1, w.2) (gather_zero x.k x.node.now x.q o.i o.invariant.2 p w.0.left))) c.if-x-ne0.branch
+    elim c.if-x-ne0.branch [
+      | then-x-ne0 w ↦ (omega arith, omega arith, rw (w.row-is, w.n-is) (gather_some x.k x.node.now x.q o.i o.invariant.2 p w.if-x-ne0.true (omega arith)))
+      | else-x-ne0 w ↦ (omega arith, omega arith, rw (w.row-is, w.n-is) (gather_zero x.k x.node.now x.q o.i o.invariant.2 p w.if-x-ne0.false))
+    ]
 
 pub returns : goal.returns
 returns c =
