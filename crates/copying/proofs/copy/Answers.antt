@@ -43,7 +43,7 @@ loop-owed-preserved c =
     let x = c in
     let l = c.loop-owed in
     let k = c.copy_block-k in
-    (k.auto.0 ∙ l.invariant.0, way_goes c.args.s c.args.memory.now c.args.n c.args.i c.args.b c.args.j c.args.c c.requires l.memory l.owed l.left l.x l.y l.invariant.1 some _ _ _ _ k.ensures.0 c.link_in-behind_x.ensures c.link_in-behind_y.ensures k.ensures.1)
+    (k.auto.memory ∙ l.invariant.0, way_goes c.args.s c.args.memory.now c.args.n c.args.i c.args.b c.args.j c.args.c c.requires l.memory l.owed l.left l.x l.y l.invariant.1 some _ _ _ _ k.ensures.answer c.link_in-behind_x.ensures c.link_in-behind_y.ensures k.ensures.stored)
 
 pub shape_of-memory : goal.shape_of-memory
 shape_of-memory c = c.loop-owed.invariant.0

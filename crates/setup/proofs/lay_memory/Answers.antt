@@ -17,14 +17,14 @@ slice_bounds-lay_head-end c =
 pub lay_head-requires : goal.lay_head-requires
 lay_head-requires c =
     let y = c in
-    let k = c.clear in record { in_range = c.requires.sized.range; head_value = head_next c.args.s c.requires.sized.range k.new.0 (cleared c.args.s c.args.memory.now k.new.0 k.ensures c.requires.sized.long) }
+    let k = c.clear in record { in_range = c.requires.sized.range; head_value = head_next c.args.s c.requires.sized.range k.new.words (cleared c.args.s c.args.memory.now k.new.words k.ensures c.requires.sized.long) }
 
 pub slice_bounds-copy-end : goal.slice_bounds-copy-end
 slice_bounds-copy-end c =
     let y = c in
     let k = c.clear in
     let h = c.lay_head in
-    omega (arith, nodes_fit c.args.s, c.requires.sized.long, k.auto.0, same_len_mid 0 (24 - 0) k.new.0 h.new.0 h.auto.0)
+    omega (arith, nodes_fit c.args.s, c.requires.sized.long, k.auto.words, same_len_mid 0 (24 - 0) k.new.words h.new.head h.auto.head)
 
 pub lay_nodes-requires : goal.lay_nodes-requires
 lay_nodes-requires c =
@@ -32,14 +32,14 @@ lay_nodes-requires c =
     let k = c.clear in
     let h = c.lay_head in
     let t = c.copy in
-    let w : List ℕ = put_mid 0 (24 - 0) k.new.0 h.new.0 in record {
+    let w : List ℕ = put_mid 0 (24 - 0) k.new.words h.new.head in record {
       sized = record {
         range = c.requires.sized.range;
-        long = same_len_mid 24 (536 - 24) w t.new.0 t.auto.0
-            ∙ same_len_mid 0 (24 - 0) k.new.0 h.new.0 h.auto.0 ∙ k.auto.0 ∙ c.requires.sized.long;
+        long = same_len_mid 24 (536 - 24) w t.new.to t.auto.to
+            ∙ same_len_mid 0 (24 - 0) k.new.words h.new.head h.auto.head ∙ k.auto.words ∙ c.requires.sized.long;
       };
-      memory_value = nodes_start c.args.s c.requires.sized.range k.new.0 (cleared c.args.s c.args.memory.now k.new.0 k.ensures c.requires.sized.long)
-          h.new.0 t.new.0 c.args.table.now c.requires.table_len h.ensures t.ensures;
+      memory_value = nodes_start c.args.s c.requires.sized.range k.new.words (cleared c.args.s c.args.memory.now k.new.words k.ensures c.requires.sized.long)
+          h.new.head t.new.to c.args.table.now c.requires.table_len h.ensures t.ensures;
     }
 
 pub returns : goal.returns
@@ -48,5 +48,5 @@ returns c =
     let k = c.clear in
     let h = c.lay_head in
     let t = c.copy in
-    memory-back c.args.s c.requires.sized.range k.new.0 (cleared c.args.s c.args.memory.now k.new.0 k.ensures c.requires.sized.long)
-    h.new.0 t.new.0 c.args.table.now c.requires.table_len h.ensures t.ensures _ c.lay_nodes.ensures
+    memory-back c.args.s c.requires.sized.range k.new.words (cleared c.args.s c.args.memory.now k.new.words k.ensures c.requires.sized.long)
+    h.new.head t.new.to c.args.table.now c.requires.table_len h.ensures t.ensures _ c.lay_nodes.ensures

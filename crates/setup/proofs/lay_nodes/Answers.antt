@@ -34,8 +34,8 @@ loop-i-preserved c =
     let a : ℕ = c.node_at-at.result in
     let n : ℕ = c.node_size-words.result in (
       search rules,
-      same_len_mid a (a + n - a) l.memory c.lay_node.new.0 c.lay_node.auto.node ∙ l.invariant.1,
-      node-back c.args.s c.requires.sized.range (take nodes_at c.args.memory.now) c.args.memory.now l.memory c.lay_node.new.0 l.i a n
+      same_len_mid a (a + n - a) l.memory c.lay_node.new.node c.lay_node.auto.node ∙ l.invariant.1,
+      node-back c.args.s c.requires.sized.range (take nodes_at c.args.memory.now) c.args.memory.now l.memory c.lay_node.new.node l.i a n
           c.node_at-at.ensures.is c.node_size-words.ensures.is (length-take-le 536 c.args.memory.now (omega (arith, nodes_fit c.args.s))) l.invariant.2 c.lay_node.ensures,
     )
 

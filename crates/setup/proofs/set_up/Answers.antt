@@ -38,5 +38,5 @@ lay_memory-requires c =
 pub returns : goal.returns
 returns c =
     let k = told_made c.args.b c.args.m c.args.s c.args.a c.args.t c.in-Made.settings (sym c.new.ensures ∙ c.in-Made.is) in
-    out-done (settings_of c.args.b c.args.m c.args.s c.args.a c.args.t) c.args.table.now c.args.memory.now k.0 (sym c.is_right.ensures ∙ c.if-not-is_right.false) c.lay_memory.new.0
+    out-done (settings_of c.args.b c.args.m c.args.s c.args.a c.args.t) c.args.table.now c.args.memory.now k.0 (sym c.is_right.ensures ∙ c.if-not-is_right.false) c.lay_memory.new.memory
     (c.if-memory-memory_size.false ∙ c.memory_size.ensures ∙ ap memory_size (sym k.1)) (c.lay_memory.ensures ∙ ap (λ g. fresh_memory g c.args.table.now) (sym k.1))
