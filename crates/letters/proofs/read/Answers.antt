@@ -7,22 +7,7 @@ use Rattle.letters.proofs.Steps.{Stepped, stepped, first_block}
 use Prim.Native.Nat.{◌+◌, ◌-◌}
 use Rattle.letters.proofs.UnderWay.{Reading, read_starts, read_passes, read_inside, read_goes, read_ends}
 use borrow.Author.Rules.{rules}
-use Rattle.letters.proofs.read.Reads as own
-use Rattle.letters.proofs.read.Lts as lts
-use Rattle.layout.proofs.block_at.Reads as block_at
-use Rattle.reading.proofs.first.Reads as first
-use Rattle.letters.proofs.read_block.Reads as read-block
 use Rattle.letters.proofs.read.Goals as goal
-
--- where the reader took a step: what it tells
-step_of : (y : lts.After-k (block_at.Asked, block_at.Learnt, first.Asked, first.Learnt, read-block.Asked, read-block.Learnt) own.Pre own.Post invariant-loop decreases-loop)
-    → let x = y.before.before.before.before.before.before.before.before.before.args in
-    let l = y.before.before.before.before.loop in
-    Stepped x.s x.node.now l.invariant.owed l.block l.skip (length x.out.now - l.done) y.k.given.0.0 y.k.given.0.1.0
-step_of y =
-    let x = y.before.before.before.before.before.before.before.before.before.args in
-    let l = y.before.before.before.before.loop in
-    stepped x.s x.node.now l.invariant.owed l.block l.skip (length x.out.now - l.done) _ _ _ y.before.before.first.result l.invariant.covers y.before.before.before.before.before.block_at.ensures.is y.before.before.first.ensures y.k.given.1
 
 pub overflow_sub-before : goal.overflow_sub-before
 overflow_sub-before c = let x = c in (first_block c.args.s c.requires.walks.stretch.range _ c.block_at-before.ensures.is).0
@@ -50,7 +35,7 @@ overflow_sub-skip c =
     let y = c in
     let x = c in
     let l = c.loop-done in
-    (read_passes c.args.s c.args.node.now c.args.b c.args.at c.args.out.now l.out l.block l.skip l.done l.invariant _ _ (step_of c) c.if-k-eq0.true).0
+    (read_passes c.args.s c.args.node.now c.args.b c.args.at c.args.out.now l.out l.block l.skip l.done l.invariant _ _ (stepped c.args.s c.args.node.now c.loop-done.invariant.owed c.loop-done.block c.loop-done.skip (length c.args.out.now - c.loop-done.done) _ _ _ c.first.result c.loop-done.invariant.covers c.block_at-before.ensures.is c.first.ensures c.in-Words.is) c.if-k-eq0.true).0
 
 pub slice_bounds-read_block-count : goal.slice_bounds-read_block-count
 slice_bounds-read_block-count c = c.loop-done.invariant.within
@@ -60,10 +45,10 @@ read_block-requires c =
     let y = c in
     let x = c in
     let l = c.loop-done in
-    read_inside c.args.s c.args.node.now c.args.b c.args.at c.args.out.now l.out l.block l.skip l.done l.invariant _ _ (step_of c) c.if-k-eq0.false
+    read_inside c.args.s c.args.node.now c.args.b c.args.at c.args.out.now l.out l.block l.skip l.done l.invariant _ _ (stepped c.args.s c.args.node.now c.loop-done.invariant.owed c.loop-done.block c.loop-done.skip (length c.args.out.now - c.loop-done.done) _ _ _ c.first.result c.loop-done.invariant.covers c.block_at-before.ensures.is c.first.ensures c.in-Words.is) c.if-k-eq0.false
 
 pub overflow_add-done : goal.overflow_add-done
-overflow_add-done c = omega (arith, (step_of c).carries)
+overflow_add-done c = omega (arith, (stepped c.args.s c.args.node.now c.loop-done.invariant.owed c.loop-done.block c.loop-done.skip (length c.args.out.now - c.loop-done.done) _ _ _ c.first.result c.loop-done.invariant.covers c.block_at-before.ensures.is c.first.ensures c.in-Words.is).carries)
 
 pub loop-done-smaller-then-k-eq0 : goal.loop-done-smaller-then-k-eq0
 loop-done-smaller-then-k-eq0 c =
@@ -71,14 +56,14 @@ loop-done-smaller-then-k-eq0 c =
     let x = c in
     let l = c.loop-done in
     let w = c.requires.walks.stretch.range.b.low in
-    omega (arith, (read_passes c.args.s c.args.node.now c.args.b c.args.at c.args.out.now l.out l.block l.skip l.done l.invariant _ _ (step_of c) c.if-k-eq0.true).0)
+    omega (arith, (read_passes c.args.s c.args.node.now c.args.b c.args.at c.args.out.now l.out l.block l.skip l.done l.invariant _ _ (stepped c.args.s c.args.node.now c.loop-done.invariant.owed c.loop-done.block c.loop-done.skip (length c.args.out.now - c.loop-done.done) _ _ _ c.first.result c.loop-done.invariant.covers c.block_at-before.ensures.is c.first.ensures c.in-Words.is) c.if-k-eq0.true).0)
 
 pub loop-done-preserved-then-k-eq0 : goal.loop-done-preserved-then-k-eq0
 loop-done-preserved-then-k-eq0 c =
     let y = c in
     let x = c in
     let l = c.loop-done in
-    (read_passes c.args.s c.args.node.now c.args.b c.args.at c.args.out.now l.out l.block l.skip l.done l.invariant _ _ (step_of c) c.if-k-eq0.true).1
+    (read_passes c.args.s c.args.node.now c.args.b c.args.at c.args.out.now l.out l.block l.skip l.done l.invariant _ _ (stepped c.args.s c.args.node.now c.loop-done.invariant.owed c.loop-done.block c.loop-done.skip (length c.args.out.now - c.loop-done.done) _ _ _ c.first.result c.loop-done.invariant.covers c.block_at-before.ensures.is c.first.ensures c.in-Words.is) c.if-k-eq0.true).1
 
 pub loop-done-smaller : goal.loop-done-smaller
 loop-done-smaller c = omega (arith, c.if-k-eq0.false)
@@ -88,7 +73,7 @@ loop-done-preserved c =
     let y = c in
     let x = c in
     let l = c.loop-done in
-    read_goes c.args.s c.args.node.now c.args.b c.args.at c.args.out.now l.out l.block l.skip l.done l.invariant _ _ (step_of c) c.if-k-eq0.false _ c.read_block.ensures.got
+    read_goes c.args.s c.args.node.now c.args.b c.args.at c.args.out.now l.out l.block l.skip l.done l.invariant _ _ (stepped c.args.s c.args.node.now c.loop-done.invariant.owed c.loop-done.block c.loop-done.skip (length c.args.out.now - c.loop-done.done) _ _ _ c.first.result c.loop-done.invariant.covers c.block_at-before.ensures.is c.first.ensures c.in-Words.is) c.if-k-eq0.false _ c.read_block.ensures.got
 
 pub shape_of-out : goal.shape_of-out
 shape_of-out c = c.loop-done.invariant.long

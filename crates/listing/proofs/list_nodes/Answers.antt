@@ -16,13 +16,11 @@ loop-c-init c = let x = c.args in (omega arith, queues_start x.s x.memory.now (r
 pub list_send_queue-requires : goal.list_send_queue-requires
 list_send_queue-requires c =
     let l = c.loop-c in
-    let x = c in (
-      c.requires.asked,
-      (
-        ((div-lt_iff_lt-mul {k = 6} {c = l.c} {y = 6} (omega arith)).1 (omega arith), mod-lt l.c {m = 6} (omega arith)),
-        so_low (sent_below c.args.s c.args.memory.now l.c) c.args.ranks.now c.args.out.now l.ranks l.out l.invariant.1 _ _ c.requires.low (omega (arith, few-sent c.args.s c.args.memory.now c.requires.asked l.c l.invariant.0)),
-      ),
-    )
+    record {
+      asked = c.requires.asked;
+      i_lt_nodes = ((div-lt_iff_lt-mul {k = 6} {c = l.c} {y = 6} (omega arith)).1 (omega arith), mod-lt l.c {m = 6} (omega arith));
+      low = so_low (sent_below c.args.s c.args.memory.now l.c) c.args.ranks.now c.args.out.now l.ranks l.out l.invariant.1 _ _ c.requires.low (omega (arith, few-sent c.args.s c.args.memory.now c.requires.asked l.c l.invariant.0));
+    }
 
 pub loop-c-preserved : goal.loop-c-preserved
 loop-c-preserved c =

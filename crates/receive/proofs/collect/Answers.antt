@@ -8,7 +8,7 @@ pub settings_in-s-requires : goal.settings_in-s-requires
 settings_in-s-requires c = let x = c in seated_front c.args.memory.now c.args.i c.args.q c.requires
 
 pub node_at-a-requires : goal.node_at-a-requires
-node_at-a-requires c = rw c.settings_in-s.ensures (c.requires.sized.range, c.requires.home)
+node_at-a-requires c = record { in_range = rw c.settings_in-s.ensures c.requires.sized.range; i_bound = c.requires.home }
 
 pub node_size-requires : goal.node_size-requires
 node_size-requires c = rw c.settings_in-s.ensures c.requires.sized.range

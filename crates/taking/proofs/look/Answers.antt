@@ -12,7 +12,7 @@ pub returns-then-items-i : goal.returns-then-items-i
 returns-then-items-i c = let x = c.args in seen_end x.s x.node.now x.q x.source x.i (omega arith)
 
 pub item-b-requires : goal.item-b-requires
-item-b-requires c = rw c.task_kind-k.ensures (c.requires.queue, omega (arith, c.requires.queue.count, c.items_of-items.ensures))
+item-b-requires c = record { queue = rw c.task_kind-k.ensures c.requires.queue; i_lt_slots = rw c.task_kind-k.ensures (omega (arith, c.requires.queue.count, c.items_of-items.ensures)) }
 
 pub returns-then-b-eq0 : goal.returns-then-b-eq0
 returns-then-b-eq0 c =
