@@ -14,7 +14,7 @@ use Rattle.places.specs.Given.{all_marked}
 use Rattle.places.proofs.are_all_marked.Given as goal
 
 abbrev pub invariant-loop-b : goal.invariant-loop-b
-invariant-loop-b l = (l.b ≤ l.m) × (every l.b (λ l.b. eqb (get_or l.marks (suc l.b) 0) 1) ≡ true)
+invariant-loop-b l = (l.b ≤ l.m) × (every l.b (λ b. eqb (get_or l.marks (suc b) 0) 1) ≡ true)
 
 abbrev pub decreases-loop-b : goal.decreases-loop-b
 decreases-loop-b l = l.m - l.b

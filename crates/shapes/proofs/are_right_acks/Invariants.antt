@@ -15,7 +15,7 @@ use Rattle.shapes.specs.Shape.{right_post, right_acks}
 use Rattle.shapes.proofs.are_right_acks.Given as goal
 
 abbrev pub invariant-loop-k : goal.invariant-loop-k
-invariant-loop-k l = (l.k ≤ 6) × (every l.k (λ l.k. right_post (ack_kind l.s) l.node (ack_at l.s l.k) l.s.m (eqb l.k l.i)) ≡ true)
+invariant-loop-k l = (l.k ≤ 6) × (every l.k (λ k. right_post (ack_kind l.s) l.node (ack_at l.s k) l.s.m (eqb k l.i)) ≡ true)
 
 abbrev pub decreases-loop-k : goal.decreases-loop-k
 decreases-loop-k l = 6 - l.k

@@ -17,7 +17,7 @@ use Rattle.shapes.specs.Shape.{right_seat, right_seats}
 use Rattle.shapes.proofs.are_right_seats.Given as goal
 
 abbrev pub invariant-loop-q : goal.invariant-loop-q
-invariant-loop-q l = (l.q ≤ 64) × (every l.q (λ l.q. right_seat (task_kind l.s) l.node (task_at l.s l.q) l.s.m (get_or l.seats (seat_at l.i l.q) 0)) ≡ true)
+invariant-loop-q l = (l.q ≤ 64) × (every l.q (λ q. right_seat (task_kind l.s) l.node (task_at l.s q) l.s.m (get_or l.seats (seat_at l.i q) 0)) ≡ true)
 
 abbrev pub decreases-loop-q : goal.decreases-loop-q
 decreases-loop-q l = 64 - l.q
