@@ -10,7 +10,7 @@ use lib.Seq.{get_or-set_same, get_or-set_other}
 use borrow.Author.Tests.{eq-eqb, eqb-true}
 use Rattle.words.specs.Count.{occurs}
 use Rattle.words.proofs.Lists.{same?, and-true, and-join}
-use Rattle.words.proofs.Count.{hit_self, hit_other}
+use Rattle.words.proofs.Count.{hit_self, hit_same, hit_other}
 use Rattle.visits.specs.Marks.{fresh, marked}
 
 -- each number of the list is below n
@@ -28,7 +28,10 @@ marked-count marks (x ∷ l) h e y =
     let z = eqb-true (get_or marks x 0) 0 w.0 in
     let k = marked-count (set marks x 1) l (below_set marks l x h) w.1 y in
     same? y x
-    (λ q f. let m = get_or-set_same marks x 1 0 (h x (omega (arith, hit_self x))) in rw q (omega (arith, hit_self x, rw q at k)))
+    (λ q f.
+    let m : get_or (set marks x 1) y 0 ≡ 1 = rw q (get_or-set_same marks x 1 0 (h x (omega (arith, hit_self x)))) in
+    let g : get_or marks y 0 ≡ 0 = rw q z in
+    omega (arith, hit_same y x q))
     (λ q f. let m = get_or-set_other marks x y 1 0 q in omega (arith, hit_other y x q))
 
 -- no more than once, marks and list together: none is marked on the way
@@ -40,5 +43,7 @@ once-fresh marks (x ∷ l) h f =
     (eq-eqb (get_or marks x 0) 0 (omega (arith, f x, hit_self x)))
     (once-fresh (set marks x 1) l (below_set marks l x h)
     (λ y. same? y x
-    (λ q e. let m = get_or-set_same marks x 1 0 (h x (omega (arith, hit_self x))) in rw q (omega (arith, f x, hit_self x)))
+    (λ q e.
+    let m : get_or (set marks x 1) y 0 ≡ 1 = rw q (get_or-set_same marks x 1 0 (h x (omega (arith, hit_self x)))) in
+    omega (arith, f y, hit_same y x q))
     (λ q e. let m = get_or-set_other marks x y 1 0 q in omega (arith, f y, hit_other y x q))))
