@@ -1,11 +1,11 @@
-// A script of words on standard input, and the lines that answer it on standard output.
+// A script of words from a reader, and the lines that answer it.
 #![tactic(auto)]
 
-ghost use Rattle.std.specs.Prelude.{◌≡◌, ◌≤◌, length};
+ghost use Rattle.std.specs.Prelude.{◌≡◌, ◌≤◌, length, IfOk};
 ghost use Rattle.script.specs.Words.{rising, sum_of};
 
 use answers::Answer;
-use libc::STDOUT_FILENO;
+use std::io;
 
 // What is read next: a word, the end, or an end in the midst of a word.
 #[derive(Clone, Copy)]
@@ -28,51 +28,66 @@ fn wide(x: u8) -> u32
     x as u32
 }
 
+// Fills the bytes as far as the reader goes, and tells how far that is.
+pub fn read_full<R: io::Read>(from: &mut R, bytes: &mut [u8]) -> io::Result<usize>
+    ensures { IfOk result (λ n. n ≤ length bytes.new) }
+{
+    let mut at = 0;
+    while at < bytes.len() {
+        let n = from.read(&mut bytes[at..])?;
+        if n == 0 {
+            return Ok(at);
+        }
+        at += n;
+    }
+    Ok(at)
+}
+
 // The next word, low byte first. (What is read no contract can say.)
-pub fn read_word() -> Read {
+pub fn read_word<R: io::Read>(from: &mut R) -> io::Result<Read> {
     let mut bytes = [0u8; 4];
-    let n = io::read_full(0, &mut bytes);
+    let n = read_full(from, &mut bytes)?;
     if n == 0 {
-        return Read::End;
+        return Ok(Read::End);
     }
     if n < 4 {
-        return Read::Part;
+        return Ok(Read::Part);
     }
     let low = wide(bytes[0]) + wide(bytes[1]) * 256;
     let high = wide(bytes[2]) + wide(bytes[3]) * 256;
-    Read::Word(low + high * 65536)
+    Ok(Read::Word(low + high * 65536))
 }
 
 // The next n words.
-pub fn read_arguments(n: usize) -> Arguments
+pub fn read_arguments<R: io::Read>(from: &mut R, n: usize) -> io::Result<Arguments>
     requires { n ≤ 5 }
 {
     let mut words = [0u32; 5];
     let mut i = 0;
     while i < n {
-        let Read::Word(w) = read_word() else {
-            return Arguments {
+        let Read::Word(w) = read_word(from)? else {
+            return Ok(Arguments {
                 whole: false,
                 words,
-            };
+            });
         };
         words[i] = w;
         i += 1;
     }
-    Arguments { whole: true, words }
+    Ok(Arguments { whole: true, words })
 }
 
 // Reads words until the slice is full, and says whether they were all there.
-pub fn read_all(words: &mut [u32]) -> bool {
+pub fn read_all<R: io::Read>(from: &mut R, words: &mut [u32]) -> io::Result<bool> {
     let mut i = 0;
     while i < words.len() {
-        let Read::Word(w) = read_word() else {
-            return false;
+        let Read::Word(w) = read_word(from)? else {
+            return Ok(false);
         };
         words[i] = w;
         i += 1;
     }
-    true
+    Ok(true)
 }
 
 // Each word i becomes f + i.
@@ -102,20 +117,20 @@ pub fn sum(words: &[u32]) -> u64
 }
 
 // A number, and what follows it.
-pub fn print_number(n: u64, after: &[u8]) {
-    io::print_decimal(STDOUT_FILENO, n);
-    io::write_all(STDOUT_FILENO, after);
+pub fn print_number(to: &impl Print, n: u64, after: &[u8]) -> io::Result<()> {
+    to.print(n)?;
+    to.write_all(after)
 }
 
 // The number and the three values of an answer, a blank behind each.
-pub fn print_answer(a: Answer) {
-    print_number(a.number as u64, b" ");
-    print_number(a.first as u64, b" ");
-    print_number(a.second as u64, b" ");
-    print_number(a.third as u64, b" ");
+pub fn print_answer(to: &impl Print, a: Answer) -> io::Result<()> {
+    print_number(to, u64::from(a.number), b" ")?;
+    print_number(to, u64::from(a.first), b" ")?;
+    print_number(to, u64::from(a.second), b" ")?;
+    print_number(to, u64::from(a.third), b" ")
 }
 
 // What a bad script is answered with.
-pub fn print_bad() {
-    io::write_all(STDOUT_FILENO, b"bad\n");
+pub fn print_bad(to: &impl Print) -> io::Result<()> {
+    to.write_all(b"bad\n")
 }
