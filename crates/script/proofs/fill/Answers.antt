@@ -15,7 +15,7 @@ loop-i-preserved c =
       search rules,
       simp length-set (search rules),
       rw l.invariant.2 (rising_more x.f l.i l.next x.words.now (omega arith) l.invariant.3),
-      rising_next x.f l.i l.next c.wrapping_add_u32-next.result l.invariant.3 c.wrapping_add_u32-next.ensures,
+      rising_next x.f l.i l.next c.wrapping_add_u32-next.result l.invariant.3 c.wrapping_add_u32-next.ensures.value,
     )
 
 pub returns : goal.returns

@@ -3,7 +3,7 @@ use Rattle.std.proofs.Common.{◌≡◌, ◌-◌, ◌≤◌, length, rules}
 use Rattle.script.proofs.read_all.Given as goal
 
 abbrev pub invariant-loop-i : goal.invariant-loop-i
-invariant-loop-i l = (l.i ≤ length l.initial.words) × (length l.words ≡ length l.initial.words)
+invariant-loop-i g l = (l.i ≤ length l.initial.words) × (length l.words ≡ length l.initial.words)
 
 abbrev pub decreases-loop-i : goal.decreases-loop-i
-decreases-loop-i l = length l.initial.words - l.i
+decreases-loop-i g l = length l.initial.words - l.i

@@ -3,7 +3,7 @@ use Rattle.std.proofs.Common.{◌≡◌, ◌-◌, ◌≤◌, length, rules}
 use Rattle.script.proofs.read_arguments.Given as goal
 
 abbrev pub invariant-loop-i : goal.invariant-loop-i
-invariant-loop-i l = (l.i ≤ l.n) × (length l.words ≡ 5)
+invariant-loop-i g l = (l.i ≤ l.n) × (length l.words ≡ 5)
 
 abbrev pub decreases-loop-i : goal.decreases-loop-i
-decreases-loop-i l = l.n - l.i
+decreases-loop-i g l = l.n - l.i
