@@ -18,7 +18,7 @@ list_send_queue-requires c =
     let l = c.loop-c in
     record {
       asked = c.requires.asked;
-      i_lt_nodes = ((div-lt_iff_lt-mul {k = 6} {c = l.c} {y = 6} (omega arith)).1 (omega arith), mod-lt l.c {m = 6} (omega arith));
+      i_lt_nodes = ((div-lt_iff_lt-mul {k = 6} {x = l.c} {y = 6} (omega arith)).1 (omega arith), mod-lt l.c {m = 6} (omega arith));
       low = so_low (sent_below c.args.s c.args.memory.now l.c) c.args.ranks.now c.args.out.now l.ranks l.out l.invariant.1 _ _ c.requires.low (omega (arith, few-sent c.args.s c.args.memory.now c.requires.asked l.c l.invariant.0));
     }
 
