@@ -1,4 +1,4 @@
-// The door: the five calls, as include/mail.h declares them for C.
+// The door: the five calls, with the document's numbers and values.
 #![tactic(auto)]
 
 ghost use Rattle.mail.specs.Door.{SetsUp, Sends, Receives, Turns, Lists};
@@ -6,8 +6,7 @@ ghost use Rattle.mail.specs.Door.{SetsUp, Sends, Receives, Turns, Lists};
 use answers::Answer;
 
 // Lays out a memory with no letters, by five settings and a table.
-#[unsafe(no_mangle)]
-pub extern "C" fn mail_set_up(
+pub fn mail_set_up(
     b: u32,
     m: u32,
     s: u32,
@@ -22,42 +21,28 @@ pub extern "C" fn mail_set_up(
 }
 
 // Sends a letter from one task to another.
-#[unsafe(no_mangle)]
-pub extern "C" fn mail_send(
-    memory: &mut [u32],
-    source: u32,
-    destination: u32,
-    body: &[u32],
-) -> Answer
+pub fn mail_send(memory: &mut [u32], source: u32, destination: u32, body: &[u32]) -> Answer
     ensures { Sends memory.old source destination body.now result memory.new }
 {
     send::number_of(send::send(memory, source, destination, body))
 }
 
 // Receives a task's first letter, or its first from a source that is not 0.
-#[unsafe(no_mangle)]
-pub extern "C" fn mail_receive(
-    memory: &mut [u32],
-    destination: u32,
-    source: u32,
-    out: &mut [u32],
-) -> Answer
+pub fn mail_receive(memory: &mut [u32], destination: u32, source: u32, out: &mut [u32]) -> Answer
     ensures { Receives memory.old destination source out.old result memory.new out.new }
 {
     receive::number_of(receive::receive(memory, destination, source, out))
 }
 
 // Lets the node whose turn it is fetch its mail.
-#[unsafe(no_mangle)]
-pub extern "C" fn mail_turn(memory: &mut [u32]) -> Answer
+pub fn mail_turn(memory: &mut [u32]) -> Answer
     ensures { Turns memory.old result memory.new }
 {
     turn::number_of(turn::turn(memory))
 }
 
 // Lists the letters on their way.
-#[unsafe(no_mangle)]
-pub extern "C" fn mail_list(memory: &[u32], out: &mut [u32]) -> Answer
+pub fn mail_list(memory: &[u32], out: &mut [u32]) -> Answer
     ensures { Lists memory.now out.old result out.new }
 {
     listing::number_of(listing::list(memory, out))
