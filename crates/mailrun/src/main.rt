@@ -5,6 +5,7 @@ ghost use Rattle.std.specs.Prelude.{◌≡◌, ◌≤◌, ◌<◌, length, get_o
 ghost use Rattle.mailrun.specs.Program.{word_from, sent, received, played};
 
 use answers::Answer;
+use std::io;
 
 fn wide(x: u8) -> u32
     ensures { (result ≡ x) × (result ≤ 255) }
@@ -78,23 +79,28 @@ fn play(memory: &mut [u32], bytes: &[u8]) -> Answer
 }
 
 // The line of one event.
-fn print_line(event: u64, a: Answer) {
-    script::print_number(event, b" ");
-    script::print_number(a.number as u64, b" ");
-    script::print_number(a.first as u64, b" ");
-    script::print_number(a.second as u64, b" ");
-    script::print_number(a.third as u64, b"\n");
+fn print_line(to: &impl Print, event: u64, a: Answer) -> io::Result<()> {
+    script::print_number(to, event, b" ")?;
+    script::print_number(to, u64::from(a.number), b" ")?;
+    script::print_number(to, u64::from(a.first), b" ")?;
+    script::print_number(to, u64::from(a.second), b" ")?;
+    script::print_number(to, u64::from(a.third), b"\n")
 }
 
 // Reads and plays the next record, and says whether there was one.
-fn step(memory: &mut [u32], event: u64) -> bool {
+fn step<R: io::Read>(
+    from: &mut R,
+    to: &impl Print,
+    memory: &mut [u32],
+    event: u64,
+) -> io::Result<bool> {
     let mut bytes = [0u8; 8];
-    let n = io::read_full(0, &mut bytes);
+    let n = script::read_full(from, &mut bytes)?;
     if n == 0 {
-        return false;
+        return Ok(false);
     }
-    print_line(event, play(memory, &bytes[0..n]));
-    true
+    print_line(to, event, play(memory, &bytes[0..n]))?;
+    Ok(true)
 }
 
 // No task is bound.
@@ -115,7 +121,7 @@ fn bind(table: &mut [u32], task: usize, node: u32, queue: u32)
     table[2 * task + 1] = queue;
 }
 
-fn main() {
+fn main(rt: HostRuntime) -> io::Result<()> {
     let mut memory = [0u32; 3788];
     let mut table = [0u32; 512];
     unbind(&mut table);
@@ -123,8 +129,11 @@ fn main() {
     bind(&mut table, 27, 2, 4);
     bind(&mut table, 52, 3, 16);
     mail::mail_set_up(8, 4, 2, 2, 2, &table, &mut memory);
-    let mut event: u64 = 1;
-    while event < u64::MAX && step(&mut memory, event) {
-        event += 1;
+    let mut from = rt.stdin();
+    for event in 1..u64::MAX {
+        if !step(&mut from, &rt, &mut memory, event)? {
+            break;
+        }
     }
+    Ok(())
 }
