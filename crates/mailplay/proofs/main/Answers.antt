@@ -1,11 +1,8 @@
 -- `mailplay::main` meets its contract: it ends after so many kinds at most. Assumes nothing.
-use mathlib.Core.Path.{◌≡◌}
 use Prim.Native.Nat.{ℕ}
 use native.Mathlib.Omega.{arith}
-use lib.ListN.{length, length-replicate}
-use borrow.Author.Rules.{rules}
-use Rattle.mailplay.specs.Held.{Fits}
+use lib.ListN.{length-replicate}
 use Rattle.mailplay.proofs.main.Goals as goal
 
-pub loop-left-init : goal.loop-left-init
-loop-left-init c = (length-replicate {A = ℕ} 512180 0, length-replicate {A = ℕ} 1024 0, length-replicate {A = ℕ} 40000 0, record { memory = omega arith; table = omega arith })
+pub loop-init : goal.loop-init
+loop-init c = (length-replicate {A = ℕ} 512180 0, length-replicate {A = ℕ} 1024 0, length-replicate {A = ℕ} 40000 0, record { memory = omega arith; table = omega arith })
