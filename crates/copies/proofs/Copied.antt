@@ -18,7 +18,7 @@ use Rattle.queues.specs.Queue.{send_kind, item_at, Queue}
 use Rattle.queues.proofs.Views.{contents_item}
 use Rattle.blocks.specs.Chain.{needs, link, chain, text}
 use Rattle.blocks.specs.Asked.{Block}
-use Rattle.letters.specs.Letter.{word, letter}
+use Rattle.letters.specs.Letter.{word}
 use Rattle.letters.proofs.Rows.{needs-enough}
 use Rattle.letters.proofs.Laws.{word-text}
 use Rattle.letters.proofs.Copies.{length-letter, node-stretch}

@@ -19,7 +19,7 @@ use Rattle.layout.specs.Asked.{Stretch}
 use Rattle.layout.proofs.NodeRows.{by-send, by_ack, by_task, row_fits}
 use Rattle.blocks.proofs.Rows.{rows}
 use Rattle.queues.specs.declared.Kind.{Kind}
-use Rattle.queues.specs.Queue.{send_kind, ack_kind, task_kind, start, contents, Placed}
+use Rattle.queues.specs.Queue.{send_kind, ack_kind, task_kind, contents, Placed}
 use Rattle.queues.specs.Items.{live}
 use Rattle.queues.proofs.Ring.{Ring, ring_of, ring_queue, ring_contents}
 use Rattle.queues.proofs.InRow.{Room, ring_up, ring_down}

@@ -23,7 +23,7 @@ use Rattle.blocks.proofs.Chains.{Leads}
 use Rattle.blocks.proofs.Rows.{first_rows}
 use Rattle.letters.proofs.Copies.{node-stretch}
 use Rattle.queues.specs.Queue.{send_kind, ack_kind, task_kind}
-use Rattle.queues.specs.Items.{live, gap_flag}
+use Rattle.queues.specs.Items.{gap_flag}
 use Rattle.queues.proofs.Items.{FirstLive}
 use Rattle.queues.proofs.Ring.{Ring}
 use Rattle.queues.proofs.InRow.{room-send, room_ack, room_task}

@@ -1,5 +1,5 @@
 -- EACH CONTRACT OF THE DOOR DETERMINES ITS OUTCOME. Assumes nothing.
-use mathlib.Core.Path.{◌≡◌, sym, ◌∙◌}
+use mathlib.Core.Path.{sym, ◌∙◌}
 use Rattle.mail.specs.Determined.{Determined}
 
 pub determined : Determined

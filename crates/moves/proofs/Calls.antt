@@ -7,14 +7,14 @@
 --     hand_over     a send item's block appended to an acknowledge queue, and the item dropped
 use mathlib.Core.Path.{◌≡◌, refl, sym, ap, ap₂, ◌∙◌, subst, fun_ext}
 use mathlib.Core.List.{List, [], ◌∷◌, ◌++◌}
-use Prim.Native.Nat.{ℕ, ◌+◌, ◌-◌, ◌≤◌, ◌<◌}
+use Prim.Native.Nat.{ℕ, ◌+◌, ◌≤◌, ◌<◌}
 use native.Mathlib.Omega.{arith}
 use lib.ListN.{length, get_or, take, drop}
 use lib.Seq.{length-take-le, get_or-take}
 use Rattle.words.proofs.Lists.{put, put_same, put_other, put-put, same?}
 use Rattle.settings.specs.declared.Settings.{Settings}
 use Rattle.layout.specs.Places.{node_size, memory_size, node, with_node, send_at, ack_at, task_at, first_free_at}
-use Rattle.blocks.specs.Chain.{needs, free, text}
+use Rattle.blocks.specs.Chain.{needs, text}
 use Rattle.blocks.specs.Moves.{taken, given_back}
 use Rattle.blocks.proofs.Moves.{length_taken}
 use Rattle.taking.proofs.Taken.{length_taken as length-taken-out}

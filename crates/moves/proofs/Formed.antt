@@ -3,12 +3,12 @@
 --     begins_working, ends_working     from a represented machine to what holds between moves, and back
 use mathlib.Core.Path.{◌≡◌, refl, sym, ap, ap₂, ◌∙◌, subst}
 use mathlib.Core.List.{List, [], map}
-use Prim.Native.Nat.{ℕ, ◌+◌, ◌-◌, ◌*◌, ◌≤◌, ◌<◌}
+use Prim.Native.Nat.{ℕ, ◌+◌, ◌*◌, ◌≤◌, ◌<◌}
 use native.Mathlib.Omega.{arith}
 use lib.ListN.{length, get_or, take}
 use Rattle.words.proofs.Lists.{put, put_same, put_other, same?}
 use Rattle.settings.specs.declared.Settings.{Settings}
-use Rattle.layout.specs.Places.{node_size, node, with_node, gap_word}
+use Rattle.layout.specs.Places.{node_size, with_node, gap_word}
 use Rattle.queues.specs.Items.{gap_flag}
 use Rattle.queues.proofs.Items.{FirstLive}
 use Rattle.sound.specs.Reading.{table_in}

@@ -1,6 +1,6 @@
 -- What a sound memory gives of its queues: each is a queue, and what its items are. Assumes nothing.
 use mathlib.Core.Path.{◌≡◌, refl, ap, ◌∙◌}
-use mathlib.Core.Bool.{true, false, ◌&&◌, ◌||◌, not, false≢true}
+use mathlib.Core.Bool.{true, ◌&&◌, ◌||◌, not, false≢true}
 use mathlib.Core.List.{List, [], ◌∷◌}
 use Prim.Native.Nat.{ℕ, zero, suc, ◌+◌, ◌≤◌, ◌<◌}
 use native.Mathlib.Omega.{arith}

@@ -1,6 +1,6 @@
 -- What a sound memory gives: its parts and sizes, its queues, its free lists, its letters. Assumes nothing.
 use mathlib.Core.Path.{◌≡◌, sym, ◌∙◌}
-use mathlib.Core.Bool.{true, false, ◌&&◌, false≢true}
+use mathlib.Core.Bool.{true, ◌&&◌, false≢true}
 use mathlib.Core.List.{List, [], ◌∷◌}
 use mathlib.Core.Logic.{⊎_elim}
 use Prim.Native.Nat.{ℕ, suc, ◌+◌, ◌-◌, ◌≤◌, ◌<◌}

@@ -1,6 +1,6 @@
 -- What a memory that is sound with a postman at a position gives, said of the memory itself. Assumes nothing.
 use mathlib.Core.Path.{◌≡◌, sym, ap, ◌∙◌, subst, fun_ext}
-use mathlib.Core.Bool.{Bool, true, false, cond, ◌&&◌, ◌||◌, not, false≢true}
+use mathlib.Core.Bool.{Bool, true, cond, ◌&&◌, ◌||◌, not, false≢true}
 use mathlib.Core.List.{List, [], ◌∷◌}
 use Prim.Native.Nat.{ℕ, ◌+◌, ◌-◌, ◌≤◌, ◌<◌}
 use native.Mathlib.Omega.{arith}

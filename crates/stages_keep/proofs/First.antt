@@ -10,7 +10,7 @@ use borrow.Author.Tests.{leb-true}
 use Rattle.words.proofs.Lists.{put, put_other, split}
 use Rattle.settings.specs.declared.Settings.{Settings}
 use Rattle.layout.specs.Places.{node_size, node, with_node, first_free_at, room_at}
-use Rattle.blocks.specs.Chain.{needs, free}
+use Rattle.blocks.specs.Chain.{needs}
 use Rattle.blocks.specs.Moves.{enough, taken}
 use Rattle.blocks.proofs.Moves.{length_taken}
 use Rattle.letters.specs.Letter.{letter, written, copied}

@@ -15,7 +15,6 @@ use Rattle.layout.specs.Places.{memory_size, node_size, nodes_at, node, with_nod
 use Rattle.layout.proofs.Fits.{nodes_fit}
 use Rattle.tasks.specs.Table.{right_table}
 use Rattle.sound.specs.Reading.{settings_in, table_in, turn_in, stage_of, other_of, held_of}
-use Rattle.sound.specs.Sound.{sound}
 use Rattle.machine.specs.Machine.{Letter, first, firsts, words_of, Node, Machine}
 use Rattle.machine.specs.Spelled.{machine_of}
 use Rattle.machine.specs.Core.{rows_of, Core}

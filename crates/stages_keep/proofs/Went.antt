@@ -6,9 +6,8 @@ use mathlib.Core.List.{List, [], ◌∷◌, ◌++◌, map}
 use Prim.Native.Nat.{ℕ, zero, suc, ◌+◌, ◌-◌, ◌≤◌, ◌<◌}
 use native.Mathlib.Omega.{arith}
 use lib.ListN.{length, get_or, take, length-append}
-use Rattle.words.proofs.Lists.{split, same?}
+use Rattle.words.proofs.Lists.{same?}
 use Rattle.settings.specs.declared.Settings.{Settings}
-use Rattle.layout.specs.Places.{nodes}
 use Rattle.sound.specs.Reading.{table_in, send_items, ack_items}
 use Rattle.machine.specs.Machine.{Letter, firsts, words_of, Machine}
 use Rattle.machine.proofs.Letters.{length-firsts}
@@ -18,7 +17,7 @@ use Rattle.postman.specs.declared.Stage.TheVariants.{Done, Stopped}
 use Rattle.postman.specs.declared.Position.{Position}
 use Rattle.postman.specs.declared.Round.{Round}
 use Rattle.postman.specs.Position.{at, at_rest}
-use Rattle.postman.specs.Round.{Post, post, on_stage, stopped, one_letter, stage, and_then, into}
+use Rattle.postman.specs.Round.{Post, post, on_stage, one_letter, stage, and_then, into}
 use Rattle.stages_keep.specs.Steps.{space_of, copied_in, queued, acknowledged, handed_on, delivered, carried, carried_all, carried_from, collected, collected_all, collected_from, clears_first, resumed, gone}
 use Rattle.stages_keep.proofs.Standing.{with_position, here_rest, goes_midway}
 use Rattle.stages_keep.proofs.Shown.{some_of, send-shown, ack_shown}

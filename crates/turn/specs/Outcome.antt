@@ -8,7 +8,7 @@ use Rattle.postman.specs.declared.Stage.{Stage}
 use Rattle.postman.specs.declared.Stage.TheVariants.{Done, Stopped as Halted}
 use Rattle.postman.specs.declared.Round.{Round}
 use Rattle.postman.specs.Position.{position_of, kept}
-use Rattle.postman.specs.Round.{Post, at_start}
+use Rattle.postman.specs.Round.{at_start}
 use Rattle.stages_keep.specs.Steps.{gone}
 use Rattle.turn.specs.declared.Turned.{Turned}
 use Rattle.turn.specs.declared.Turned.TheVariants.{Finished, Stopped, NotSound}

@@ -28,7 +28,7 @@ use Rattle.moves.proofs.Kept.{turn-kept}
 use Rattle.postman.specs.declared.Stage.{Stage}
 use Rattle.postman.specs.declared.Stage.TheVariants.{Done, Stopped as Halted}
 use Rattle.postman.specs.declared.Position.{Position}
-use Rattle.postman.specs.Position.{at, at_rest, position_of, standing, next_turn, kept}
+use Rattle.postman.specs.Position.{at_rest, position_of, standing, next_turn, kept}
 use Rattle.postman.specs.Round.{Post, at_start, on_stage}
 use Rattle.stages_keep.specs.Steps.{gone}
 use Rattle.postman.specs.Asked.{SoundAt}

@@ -1,7 +1,7 @@
 -- Words joined bit by bit: what a join of 0 tells of its words. Assumes nothing.
 use mathlib.Core.Path.{◌≡◌}
 use mathlib.Core.Bool.{◌&&◌}
-use Prim.Native.Nat.{ℕ, ◌-◌}
+use Prim.Native.Nat.{ℕ}
 use native.Mathlib.Omega.{arith}
 use lib.Dec.{eqb}
 use lib.Bits.{bit_or, or_zero_l, or_add_and, and_le_r}

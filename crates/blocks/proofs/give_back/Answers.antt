@@ -2,7 +2,6 @@
 use native.Mathlib.Omega.{arith}
 use Rattle.blocks.specs.Moves.{given_back}
 use Rattle.blocks.proofs.Steps.{is_block_lem, head_fits, last_in}
-use borrow.Author.Rules.{rules}
 use Rattle.blocks.proofs.give_back.Goals as goal
 
 pub bounds-node-0 : goal.bounds-node-0

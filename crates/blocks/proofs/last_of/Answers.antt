@@ -1,7 +1,6 @@
 -- `blocks::last_of` meets its contract: the walk by numbers, begun in a stretch. Assumes nothing.
 use native.Mathlib.Omega.{arith}
 use Rattle.blocks.proofs.Steps.{first_word, follows}
-use borrow.Author.Rules.{rules}
 use Rattle.blocks.proofs.last_of.Goals as goal
 
 pub overflow_sub-before : goal.overflow_sub-before

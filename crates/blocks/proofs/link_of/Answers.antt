@@ -1,5 +1,4 @@
 -- `blocks::link_of` meets its contract. Assumes nothing.
-use borrow.Author.Rules.{rules}
 use Rattle.blocks.proofs.link_of.Goals as goal
 
 pub returns : goal.returns

@@ -1,7 +1,6 @@
 -- `blocks::needs_of` meets its contract. Assumes nothing.
 use mathlib.Core.Path.{refl}
 use Rattle.blocks.specs.Chain.{needs as needs_def}
-use borrow.Author.Rules.{rules}
 use Rattle.blocks.proofs.needs_of.Goals as goal
 
 pub returns : goal.returns

@@ -1,10 +1,6 @@
 -- `blocks::reach` meets its contract: what is left to walk from here on leads to the same block. Assumes nothing.
-use mathlib.Core.Path.{◌≡◌, refl, sym, ◌∙◌}
-use Prim.Native.Nat.{◌-◌}
+use mathlib.Core.Path.{refl, sym, ◌∙◌}
 use native.Mathlib.Omega.{arith}
-use lib.ListN.{get_or}
-use Rattle.blocks.specs.Chain.{list}
-use Rattle.blocks.specs.Asked.{Reaches}
 use Rattle.blocks.proofs.Steps.{is_block_lem, nth_none, nth_last, nth_step, within-list}
 use Rattle.blocks.proofs.reach.Goals as goal
 

@@ -1,11 +1,9 @@
 -- `blocks::reach` meets its contract: what is left to walk from here on leads to the same block. Assumes nothing.
-use mathlib.Core.Path.{◌≡◌, refl, sym, ◌∙◌}
+use mathlib.Core.Path.{◌≡◌}
 use Prim.Native.Nat.{◌-◌}
-use native.Mathlib.Omega.{arith}
 use lib.ListN.{get_or}
 use Rattle.blocks.specs.Chain.{list}
 use Rattle.blocks.specs.Asked.{Reaches}
-use Rattle.blocks.proofs.Steps.{is_block_lem, nth_none, nth_last, nth_step, within-list}
 use Rattle.blocks.proofs.reach.Given as goal
 
 abbrev pub invariant-loop-rest : goal.invariant-loop-rest

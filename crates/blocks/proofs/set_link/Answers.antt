@@ -1,5 +1,4 @@
 -- `blocks::set_link` meets its contract. Assumes nothing.
-use borrow.Author.Rules.{rules}
 use Rattle.blocks.proofs.set_link.Goals as goal
 
 pub returns : goal.returns

@@ -4,7 +4,6 @@ use native.Mathlib.Omega.{arith}
 use lib.ListN.{length-set}
 use Rattle.blocks.proofs.Steps.{is_block_lem, head_fits}
 use Rattle.blocks.proofs.Taking.{front_within, last_block, taken_is, first_is, short_is, kept_is}
-use borrow.Author.Rules.{rules}
 use Rattle.blocks.proofs.take.Goals as goal
 
 pub bounds-node-0 : goal.bounds-node-0

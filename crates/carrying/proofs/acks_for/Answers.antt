@@ -1,5 +1,4 @@
 -- `carrying::acks_for` meets its contract. Assumes nothing.
-use borrow.Author.Rules.{rules}
 use Rattle.carrying.proofs.Asks.{count-range, acks_queue, acks_count}
 use Rattle.carrying.proofs.acks_for.Goals as goal
 

@@ -1,6 +1,5 @@
 -- `carrying::carry` meets its contract. Assumes nothing.
 use mathlib.Core.Path.{◌∙◌}
-use borrow.Author.Rules.{rules}
 use Rattle.stages_keep.specs.Steps.{carried}
 use Rattle.carrying.proofs.Asks.{carry_lent, carry_deliver}
 use Rattle.carrying.proofs.Ways.{stage-stop, stage_go}

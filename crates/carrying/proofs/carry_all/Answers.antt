@@ -1,10 +1,6 @@
 -- `carrying::carry_all` meets its contract: what is left from here on is the whole. Assumes nothing.
-use mathlib.Core.Path.{◌≡◌, refl, ◌∙◌}
+use mathlib.Core.Path.{refl, ◌∙◌}
 use native.Mathlib.Omega.{arith}
-use lib.ListN.{length}
-use borrow.Author.Rules.{rules}
-use Rattle.stages_keep.specs.Steps.{carried_all}
-use Rattle.carrying.specs.Asked.{Carries}
 use Rattle.carrying.proofs.Asks.{all_one, all_next}
 use Rattle.carrying.proofs.Ways.{all_none, all-stop, all_go}
 use Rattle.carrying.proofs.carry_all.Goals as goal

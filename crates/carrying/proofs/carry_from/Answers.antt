@@ -1,11 +1,6 @@
 -- `carrying::carry_from` meets its contract: what is left from a node on is the whole. Assumes nothing.
-use mathlib.Core.Path.{◌≡◌, refl, ◌∙◌}
-use Prim.Native.Nat.{◌-◌}
+use mathlib.Core.Path.{refl, ◌∙◌}
 use native.Mathlib.Omega.{arith}
-use lib.ListN.{length}
-use borrow.Author.Rules.{rules}
-use Rattle.stages_keep.specs.Steps.{carried_from}
-use Rattle.carrying.specs.Asked.{CarriesFrom}
 use Rattle.carrying.proofs.Asks.{from_all, from_next}
 use Rattle.carrying.proofs.Ways.{nodes_none, nodes-stop, nodes_go}
 use Rattle.carrying.proofs.carry_from.Goals as goal

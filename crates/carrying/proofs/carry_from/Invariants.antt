@@ -1,13 +1,9 @@
 -- `carrying::carry_from` meets its contract: what is left from a node on is the whole. Assumes nothing.
-use mathlib.Core.Path.{◌≡◌, refl, ◌∙◌}
+use mathlib.Core.Path.{◌≡◌}
 use Prim.Native.Nat.{◌-◌}
-use native.Mathlib.Omega.{arith}
 use lib.ListN.{length}
-use borrow.Author.Rules.{rules}
 use Rattle.stages_keep.specs.Steps.{carried_from}
 use Rattle.carrying.specs.Asked.{CarriesFrom}
-use Rattle.carrying.proofs.Asks.{from_all, from_next}
-use Rattle.carrying.proofs.Ways.{nodes_none, nodes-stop, nodes_go}
 use Rattle.carrying.proofs.carry_from.Given as goal
 
 abbrev pub invariant-loop-other : goal.invariant-loop-other

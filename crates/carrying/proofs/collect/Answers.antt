@@ -1,5 +1,4 @@
 -- `carrying::collect` meets its contract. Assumes nothing.
-use borrow.Author.Rules.{rules}
 use Rattle.carrying.proofs.Asks.{gave}
 use Rattle.carrying.proofs.collect.Goals as goal
 

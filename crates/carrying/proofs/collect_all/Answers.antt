@@ -1,9 +1,6 @@
 -- `carrying::collect_all` meets its contract: what is left from here on is the whole. Assumes nothing.
-use mathlib.Core.Path.{◌≡◌, refl, ◌∙◌}
+use mathlib.Core.Path.{refl, ◌∙◌}
 use native.Mathlib.Omega.{arith}
-use lib.ListN.{length}
-use Rattle.stages_keep.specs.Steps.{collected_all}
-use Rattle.carrying.specs.Asked.{Collects}
 use Rattle.carrying.proofs.Asks.{back_one, back_next}
 use Rattle.carrying.proofs.Ways.{back_none, back_go}
 use Rattle.carrying.proofs.collect_all.Goals as goal

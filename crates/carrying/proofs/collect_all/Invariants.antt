@@ -1,11 +1,8 @@
 -- `carrying::collect_all` meets its contract: what is left from here on is the whole. Assumes nothing.
-use mathlib.Core.Path.{◌≡◌, refl, ◌∙◌}
-use native.Mathlib.Omega.{arith}
+use mathlib.Core.Path.{◌≡◌}
 use lib.ListN.{length}
 use Rattle.stages_keep.specs.Steps.{collected_all}
 use Rattle.carrying.specs.Asked.{Collects}
-use Rattle.carrying.proofs.Asks.{back_one, back_next}
-use Rattle.carrying.proofs.Ways.{back_none, back_go}
 use Rattle.carrying.proofs.collect_all.Given as goal
 
 abbrev pub invariant-loop-items : goal.invariant-loop-items

@@ -1,10 +1,6 @@
 -- `carrying::collect_from` meets its contract: what is left from a node on is the whole. Assumes nothing.
-use mathlib.Core.Path.{◌≡◌, refl, ◌∙◌}
-use Prim.Native.Nat.{◌-◌}
+use mathlib.Core.Path.{refl, ◌∙◌}
 use native.Mathlib.Omega.{arith}
-use lib.ListN.{length}
-use Rattle.stages_keep.specs.Steps.{collected_from}
-use Rattle.carrying.specs.Asked.{CollectsFrom}
 use Rattle.carrying.proofs.Asks.{backs_all, backs_next}
 use Rattle.carrying.proofs.Ways.{backs_none, backs_go}
 use Rattle.carrying.proofs.collect_from.Goals as goal

@@ -1,12 +1,9 @@
 -- `carrying::collect_from` meets its contract: what is left from a node on is the whole. Assumes nothing.
-use mathlib.Core.Path.{◌≡◌, refl, ◌∙◌}
+use mathlib.Core.Path.{◌≡◌}
 use Prim.Native.Nat.{◌-◌}
-use native.Mathlib.Omega.{arith}
 use lib.ListN.{length}
 use Rattle.stages_keep.specs.Steps.{collected_from}
 use Rattle.carrying.specs.Asked.{CollectsFrom}
-use Rattle.carrying.proofs.Asks.{backs_all, backs_next}
-use Rattle.carrying.proofs.Ways.{backs_none, backs_go}
 use Rattle.carrying.proofs.collect_from.Given as goal
 
 abbrev pub invariant-loop-other : goal.invariant-loop-other

@@ -2,7 +2,6 @@
 use mathlib.Core.List.{List}
 use mathlib.Core.Path.{ap, ◌∙◌}
 use Prim.Native.Nat.{ℕ}
-use borrow.Author.Rules.{rules}
 use Rattle.lending.proofs.Lent.{lent_as, lent-part}
 use Rattle.queues.specs.Queue.{Queue, items}
 use Rattle.carrying.proofs.count_in.Goals as goal

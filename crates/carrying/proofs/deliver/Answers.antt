@@ -1,6 +1,5 @@
 -- `carrying::deliver` meets its contract. Assumes nothing.
 use mathlib.Core.Path.{◌∙◌}
-use borrow.Author.Rules.{rules}
 use Rattle.stages_keep.specs.Steps.{delivered}
 use Rattle.carrying.proofs.Asks.{deliver_there, deliver_hand}
 use Rattle.carrying.proofs.Ways.{stage-stop, stage_go}

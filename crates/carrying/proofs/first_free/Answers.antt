@@ -1,5 +1,4 @@
 -- `carrying::first_free` meets its contract. Assumes nothing.
-use borrow.Author.Rules.{rules}
 use Rattle.carrying.proofs.Asks.{free_in}
 use Rattle.carrying.proofs.first_free.Goals as goal
 

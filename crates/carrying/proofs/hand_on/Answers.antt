@@ -1,5 +1,4 @@
 -- `carrying::hand_on` meets its contract. Assumes nothing.
-use borrow.Author.Rules.{rules}
 use Rattle.stages_keep.specs.Steps.{handed_on}
 use Rattle.carrying.proofs.Asks.{hand-there, hand_first}
 use Rattle.carrying.proofs.Ways.{stage-stop, stage_go}

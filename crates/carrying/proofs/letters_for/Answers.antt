@@ -1,5 +1,4 @@
 -- `carrying::letters_for` meets its contract. Assumes nothing.
-use borrow.Author.Rules.{rules}
 use Rattle.carrying.proofs.Asks.{count-range, sends-queue, sends-count}
 use Rattle.carrying.proofs.letters_for.Goals as goal
 

@@ -1,13 +1,9 @@
 -- `copies::are_right_copies` meets its contract. Assumes nothing.
 use Rattle.copies.specs.Copy.{copy_right}
-use Rattle.sound.proofs.Tests.{every_none, turn_no, turn_more, turn_all}
 use Rattle.words.specs.Words.{every}
-use borrow.Author.Tests.{not-true, not-false}
-use native.Mathlib.Omega.{arith}
 use Prim.Native.Nat.{◌≤◌, ◌-◌}
 use mathlib.Core.Bool.{true}
 use mathlib.Core.Path.{◌≡◌}
-use borrow.Author.Rules.{rules}
 use Rattle.copies.proofs.are_right_copies.Given as goal
 
 abbrev pub invariant-loop-j : goal.invariant-loop-j

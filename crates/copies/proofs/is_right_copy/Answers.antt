@@ -1,6 +1,5 @@
 -- `copies::is_right_copy` meets its contract. Assumes nothing.
 use native.Mathlib.Omega.{arith}
-use borrow.Author.Rules.{rules}
 use Rattle.layout.proofs.Fits.{nodes_fit}
 use Rattle.copies.proofs.Copied.{copy_none, other-small, queue_is, both_read, copy_is}
 use Rattle.copies.proofs.is_right_copy.Goals as goal

@@ -1,11 +1,9 @@
 -- `copies::is_same` meets its contract. Assumes nothing.
 use Rattle.copies.proofs.Copied.{differ_at, agree_all}
 use borrow.Author.Count.{below_more}
-use lib.ListN.{length, get_or}
+use lib.ListN.{length}
 use native.Mathlib.Omega.{arith}
-use Prim.Native.Nat.{ℕ, ◌≤◌, ◌<◌, ◌-◌}
 use mathlib.Core.Path.{◌≡◌}
-use borrow.Author.Rules.{rules}
 use Rattle.copies.proofs.is_same.Goals as goal
 
 pub loop-i-init : goal.loop-i-init

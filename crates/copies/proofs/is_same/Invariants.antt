@@ -1,11 +1,7 @@
 -- `copies::is_same` meets its contract. Assumes nothing.
-use Rattle.copies.proofs.Copied.{differ_at, agree_all}
-use borrow.Author.Count.{below_more}
 use lib.ListN.{length, get_or}
-use native.Mathlib.Omega.{arith}
 use Prim.Native.Nat.{ℕ, ◌≤◌, ◌<◌, ◌-◌}
 use mathlib.Core.Path.{◌≡◌}
-use borrow.Author.Rules.{rules}
 use Rattle.copies.proofs.is_same.Given as goal
 
 abbrev pub invariant-loop-i : goal.invariant-loop-i

@@ -1,5 +1,4 @@
 -- `copies::is_same_block` meets its contract. Assumes nothing.
-use borrow.Author.Rules.{rules}
 use Rattle.copies.proofs.is_same_block.Goals as goal
 
 pub returns : goal.returns

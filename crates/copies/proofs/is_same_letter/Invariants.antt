@@ -1,10 +1,5 @@
 -- `copies::is_same_letter` meets its contract. Assumes nothing.
-use mathlib.Core.Path.{sym, ◌∙◌}
-use native.Mathlib.Omega.{arith}
-use borrow.Author.Rules.{rules}
-use borrow.Author.Tests.{not-true, not-false}
-use Rattle.visits.proofs.Read.{word-lies}
-use Rattle.copies.proofs.Copied.{told_differ, Comparing, compare_starts, compare_ends, compare_blocks, compare_differs, compare_goes}
+use Rattle.copies.proofs.Copied.{Comparing}
 use Rattle.copies.proofs.is_same_letter.Given as goal
 
 abbrev pub invariant-loop-left : goal.invariant-loop-left

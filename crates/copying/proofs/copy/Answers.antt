@@ -1,9 +1,8 @@
 -- `copying::copy` meets its contract: what is still to be copied from here on makes the whole copy. Assumes nothing.
-use mathlib.Core.Path.{◌≡◌, refl, ◌∙◌}
+use mathlib.Core.Path.{refl, ◌∙◌}
 use Prim.Native.Nat.{◌≤◌}
 use native.Mathlib.Omega.{arith}
-use lib.ListN.{length}
-use Rattle.copying.proofs.Moving.{UnderWay, way_starts, way_block, way_goes, way-ends}
+use Rattle.copying.proofs.Moving.{way_starts, way_block, way_goes, way-ends}
 use Rattle.copying.proofs.copy.Goals as goal
 
 pub needs_of-owed-requires : goal.needs_of-owed-requires

@@ -1,9 +1,7 @@
 -- `copying::copy` meets its contract: what is still to be copied from here on makes the whole copy. Assumes nothing.
-use mathlib.Core.Path.{◌≡◌, refl, ◌∙◌}
-use Prim.Native.Nat.{◌≤◌}
-use native.Mathlib.Omega.{arith}
+use mathlib.Core.Path.{◌≡◌}
 use lib.ListN.{length}
-use Rattle.copying.proofs.Moving.{UnderWay, way_starts, way_block, way_goes, way-ends}
+use Rattle.copying.proofs.Moving.{UnderWay}
 use Rattle.copying.proofs.copy.Given as goal
 
 abbrev pub invariant-loop-owed : goal.invariant-loop-owed

@@ -1,7 +1,6 @@
 -- `copying::copy_block` meets its contract. Assumes nothing.
 use mathlib.Core.Path.{ap₂}
 use Prim.Native.Nat.{ℕ, ◌+◌}
-use borrow.Author.Rules.{rules}
 use Rattle.copying.proofs.Moving.{block_moves, block_moved}
 use Rattle.copying.proofs.copy_block.Goals as goal
 

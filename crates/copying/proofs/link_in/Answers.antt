@@ -2,7 +2,6 @@
 use mathlib.Core.List.{List}
 use mathlib.Core.Path.{ap, ◌∙◌}
 use Prim.Native.Nat.{ℕ}
-use borrow.Author.Rules.{rules}
 use Rattle.blocks.specs.Chain.{link}
 use Rattle.letters.proofs.Steps.{node-part}
 use Rattle.copying.proofs.link_in.Goals as goal

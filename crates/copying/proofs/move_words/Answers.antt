@@ -1,10 +1,7 @@
 -- `copying::move_words` meets its contract: after k turns the first k words stand. Assumes nothing.
-use mathlib.Core.Path.{◌≡◌, refl, ◌∙◌}
-use Prim.Native.Nat.{◌+◌, ◌-◌, ◌≤◌}
+use mathlib.Core.Path.{refl, ◌∙◌}
 use native.Mathlib.Omega.{arith}
-use lib.ListN.{length, take, length-set}
-use lib.Seq.{sets}
-use Rattle.words.specs.Words.{part}
+use lib.ListN.{length-set}
 use Rattle.copying.proofs.Moving.{moved_more, moved_all}
 use Rattle.copying.proofs.move_words.Goals as goal
 

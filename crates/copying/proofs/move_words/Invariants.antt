@@ -1,11 +1,9 @@
 -- `copying::move_words` meets its contract: after k turns the first k words stand. Assumes nothing.
-use mathlib.Core.Path.{◌≡◌, refl, ◌∙◌}
+use mathlib.Core.Path.{◌≡◌}
 use Prim.Native.Nat.{◌+◌, ◌-◌, ◌≤◌}
-use native.Mathlib.Omega.{arith}
-use lib.ListN.{length, take, length-set}
+use lib.ListN.{length, take}
 use lib.Seq.{sets}
 use Rattle.words.specs.Words.{part}
-use Rattle.copying.proofs.Moving.{moved_more, moved_all}
 use Rattle.copying.proofs.move_words.Given as goal
 
 abbrev pub invariant-loop-k : goal.invariant-loop-k

@@ -1,6 +1,5 @@
 -- `gaps::append` meets its contract: with gaps closed the queue is still one. Assumes nothing.
 use Rattle.gaps.proofs.Closed.{queue-roomy}
-use borrow.Author.Rules.{rules}
 use Rattle.gaps.proofs.append.Goals as goal
 
 pub append-requires : goal.append-requires

@@ -3,7 +3,6 @@ use Rattle.gaps.proofs.Turns.{closed_is}
 use lib.ListN.{length-set}
 use native.Mathlib.Omega.{arith}
 use mathlib.Core.Path.{refl}
-use borrow.Author.Rules.{rules}
 use Rattle.gaps.proofs.close.Goals as goal
 
 pub gather-n-requires : goal.gather-n-requires

@@ -1,13 +1,8 @@
 -- `gaps::gather` meets its contract: after i turns the row holds the live ones of the first i items. Assumes nothing.
-use borrow.Author.Rules.{rules}
-use Rattle.gaps.proofs.Turns.{row_none, gather_some, gather_zero}
 use Rattle.gaps.specs.Row.{Row}
 use Rattle.queues.specs.Items.{live}
-use Rattle.queues.specs.Queue.{run, items}
+use Rattle.queues.specs.Queue.{run}
 use Prim.Native.Nat.{◌-◌, ◌≤◌}
-use native.Mathlib.Omega.{arith}
-use mathlib.Core.Logic.{⊎_elim}
-use mathlib.Core.Path.{◌≡◌}
 use Rattle.gaps.proofs.gather.Given as goal
 
 abbrev pub invariant-loop-i : goal.invariant-loop-i

@@ -1,10 +1,8 @@
 -- `gaps::lay` meets its contract: after i turns the first i slots are laid. Assumes nothing.
 use mathlib.Core.Path.{refl}
-use borrow.Author.Rules.{rules}
 use Rattle.gaps.proofs.Turns.{laid_more}
 use Rattle.gaps.specs.Close.{laid}
-use lib.ListN.{length, length-set}
-use Prim.Native.Nat.{◌-◌, ◌≤◌}
+use lib.ListN.{length-set}
 use native.Mathlib.Omega.{arith}
 use mathlib.Core.Path.{◌≡◌}
 use Rattle.gaps.proofs.lay.Goals as goal

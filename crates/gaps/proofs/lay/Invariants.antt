@@ -1,11 +1,7 @@
 -- `gaps::lay` meets its contract: after i turns the first i slots are laid. Assumes nothing.
-use mathlib.Core.Path.{refl}
-use borrow.Author.Rules.{rules}
-use Rattle.gaps.proofs.Turns.{laid_more}
 use Rattle.gaps.specs.Close.{laid}
-use lib.ListN.{length, length-set}
+use lib.ListN.{length}
 use Prim.Native.Nat.{◌-◌, ◌≤◌}
-use native.Mathlib.Omega.{arith}
 use mathlib.Core.Path.{◌≡◌}
 use Rattle.gaps.proofs.lay.Given as goal
 

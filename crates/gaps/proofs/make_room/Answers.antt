@@ -1,7 +1,6 @@
 -- `gaps::make_room` meets its contract, by its two tests. Assumes nothing.
 use mathlib.Core.Path.{◌∙◌}
 use Rattle.gaps.proofs.Turns.{roomy_short, roomy-whole, roomy-closed}
-use borrow.Author.Rules.{rules}
 use Rattle.gaps.proofs.make_room.Goals as goal
 
 pub returns-then-items-s : goal.returns-then-items-s

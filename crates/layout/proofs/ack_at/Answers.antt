@@ -5,7 +5,6 @@ use Rattle.words.proofs.Numbers.{product_most}
 use mathlib.Core.Path.{refl}
 use Rattle.layout.specs.Places.{ack_at}
 use Rattle.layout.proofs.Fits.{ack_fits}
-use borrow.Author.Rules.{rules}
 use Rattle.layout.proofs.ack_at.Goals as goal
 
 pub overflow_mul-result-2 : goal.overflow_mul-result-2

@@ -5,7 +5,6 @@ use Prim.Native.Nat.{◌-◌}
 use mathlib.Core.Path.{refl}
 use Rattle.layout.specs.Places.{block_at, blocks_at}
 use Rattle.layout.proofs.Fits.{block-fits}
-use borrow.Author.Rules.{rules}
 use Rattle.layout.proofs.block_at.Goals as goal
 
 pub overflow_mul-result-4 : goal.overflow_mul-result-4

@@ -1,7 +1,6 @@
 -- `layout::link_at` meets its contract. Assumes nothing.
 use native.Mathlib.Omega.{arith}
 use Rattle.layout.proofs.Fits.{node-small}
-use borrow.Author.Rules.{rules}
 use Rattle.layout.proofs.link_at.Goals as goal
 
 pub overflow_add-result : goal.overflow_add-result

@@ -1,7 +1,6 @@
 -- `layout::memory_size` meets its contract. Assumes nothing.
 use native.Mathlib.Omega.{arith}
 use Rattle.layout.specs.Places.{memory_size}
-use borrow.Author.Rules.{rules}
 use Rattle.layout.proofs.memory_size.Goals as goal
 
 pub returns : goal.returns

@@ -4,7 +4,6 @@ use Rattle.words.proofs.Numbers.{product_most}
 use mathlib.Core.Path.{refl}
 use Rattle.layout.specs.Places.{node_at}
 use Rattle.layout.proofs.MemoryRows.{stretch-fits}
-use borrow.Author.Rules.{rules}
 use Rattle.layout.proofs.node_at.Goals as goal
 
 pub overflow_mul-result : goal.overflow_mul-result

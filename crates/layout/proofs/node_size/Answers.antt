@@ -4,7 +4,6 @@ use Rattle.words.proofs.Numbers.{product_most}
 use mathlib.Core.Path.{refl}
 use Rattle.layout.specs.Places.{node_size}
 use Rattle.layout.proofs.Fits.{node-small}
-use borrow.Author.Rules.{rules}
 use Rattle.layout.proofs.node_size.Goals as goal
 
 pub overflow_mul-result-4 : goal.overflow_mul-result-4

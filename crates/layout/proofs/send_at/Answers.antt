@@ -5,7 +5,6 @@ use Rattle.words.proofs.Numbers.{product_most}
 use mathlib.Core.Path.{refl}
 use Rattle.layout.specs.Places.{send_at}
 use Rattle.layout.proofs.Fits.{send-fits}
-use borrow.Author.Rules.{rules}
 use Rattle.layout.proofs.send_at.Goals as goal
 
 pub overflow_mul-result : goal.overflow_mul-result

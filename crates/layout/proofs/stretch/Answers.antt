@@ -5,7 +5,6 @@ use native.Mathlib.Omega.{arith}
 use borrow.Rule.Slice.PartMut.{mid_len}
 use Rattle.words.specs.Words.{part}
 use Rattle.layout.specs.Places.{node_size}
-use borrow.Author.Rules.{rules}
 use Rattle.layout.proofs.stretch.Goals as goal
 
 pub returns : goal.returns

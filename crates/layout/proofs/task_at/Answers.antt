@@ -5,7 +5,6 @@ use Rattle.words.proofs.Numbers.{product_most}
 use mathlib.Core.Path.{refl}
 use Rattle.layout.specs.Places.{task_at}
 use Rattle.layout.proofs.Fits.{task_fits}
-use borrow.Author.Rules.{rules}
 use Rattle.layout.proofs.task_at.Goals as goal
 
 pub overflow_mul-result-3 : goal.overflow_mul-result-3

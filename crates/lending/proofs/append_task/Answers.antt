@@ -2,7 +2,6 @@
 use mathlib.Core.List.{List}
 use mathlib.Core.Path.{ap, ◌∙◌}
 use Prim.Native.Nat.{ℕ}
-use borrow.Author.Rules.{rules}
 use Rattle.gaps.specs.Close.{task_appended, task_answer}
 use Rattle.queues.specs.Queue.{Queue, task_kind}
 use Rattle.lending.proofs.Lent.{lent-part, lent_as, lent_back}

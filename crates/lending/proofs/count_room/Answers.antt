@@ -2,7 +2,6 @@
 use mathlib.Core.List.{List}
 use Prim.Native.Nat.{ℕ, ◌<◌}
 use lib.ListN.{length}
-use borrow.Author.Rules.{rules}
 use Rattle.queues.specs.Moves.{counted}
 use Rattle.lending.proofs.Lent.{lent_as, lent_back, lent_head}
 use Rattle.lending.proofs.count_room.Goals as goal

@@ -2,7 +2,6 @@
 use mathlib.Core.List.{List}
 use mathlib.Core.Path.{ap, ◌∙◌}
 use Prim.Native.Nat.{ℕ, ◌<◌}
-use borrow.Author.Rules.{rules}
 use Rattle.queues.specs.Moves.{dropped}
 use Rattle.queues.specs.Queue.{Queue, items, item_at}
 use Rattle.lending.proofs.Lent.{lent-part, lent_as, lent_back}

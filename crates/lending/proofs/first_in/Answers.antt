@@ -3,7 +3,6 @@ use mathlib.Core.List.{List}
 use mathlib.Core.Path.{ap, ◌∙◌}
 use Prim.Native.Nat.{ℕ}
 use native.Mathlib.Omega.{arith}
-use borrow.Author.Rules.{rules}
 use Rattle.queues.specs.Queue.{Queue, item_at}
 use Rattle.lending.proofs.Lent.{lent-part, lent_as}
 use Rattle.lending.proofs.first_in.Goals as goal

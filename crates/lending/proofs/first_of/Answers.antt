@@ -1,5 +1,4 @@
 -- `lending::first_of` meets its contract. Assumes nothing.
-use borrow.Author.Rules.{rules}
 use Rattle.lending.proofs.Queues.{first-queue, first_item}
 use Rattle.lending.proofs.first_of.Goals as goal
 

@@ -1,6 +1,5 @@
 -- `lending::length_of` meets its contract. Assumes nothing.
 use mathlib.Core.Path.{◌∙◌}
-use borrow.Author.Rules.{rules}
 use Rattle.lending.proofs.Lent.{begins-told}
 use Rattle.lending.proofs.length_of.Goals as goal
 

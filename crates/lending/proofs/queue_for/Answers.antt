@@ -1,7 +1,6 @@
 -- `lending::queue_for` meets its contract. Assumes nothing.
 use mathlib.Core.Path.{sym, ◌∙◌}
 use native.Mathlib.Omega.{arith}
-use borrow.Author.Rules.{rules}
 use Rattle.lending.proofs.Queues.{never_unbound, seat-small, seat-queue}
 use Rattle.lending.proofs.Lent.{lent_front}
 use Rattle.lending.proofs.queue_for.Goals as goal

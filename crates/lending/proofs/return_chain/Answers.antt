@@ -1,7 +1,6 @@
 -- `lending::return_chain` meets its contract. Assumes nothing.
 use mathlib.Core.List.{List}
 use Prim.Native.Nat.{ℕ}
-use borrow.Author.Rules.{rules}
 use Rattle.blocks.specs.Moves.{given_back}
 use Rattle.blocks.specs.Asked.{Walks}
 use Rattle.lending.proofs.Lent.{lent_as, lent_back}

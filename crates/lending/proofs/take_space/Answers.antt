@@ -2,7 +2,6 @@
 use mathlib.Core.List.{List}
 use mathlib.Core.Path.{ap, ◌∙◌}
 use Prim.Native.Nat.{ℕ}
-use borrow.Author.Rules.{rules}
 use Rattle.blocks.specs.Moves.{taken, taken_answer}
 use Rattle.blocks.specs.Asked.{Takes}
 use Rattle.lending.proofs.Lent.{lent-part, lent_as, lent_back}

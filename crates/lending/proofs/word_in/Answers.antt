@@ -2,7 +2,6 @@
 use mathlib.Core.List.{List}
 use mathlib.Core.Path.{ap, ◌∙◌}
 use Prim.Native.Nat.{◌+◌, ℕ}
-use borrow.Author.Rules.{rules}
 use Rattle.letters.specs.Letter.{word}
 use Rattle.letters.specs.Asked.{Lies}
 use Rattle.lending.proofs.Lent.{lent-part, lent_as, begins-lies, begins-word}

@@ -3,7 +3,6 @@ use mathlib.Core.Path.{◌≡◌}
 use native.Mathlib.Omega.{arith}
 use Rattle.letters.specs.Made.{letter_of}
 use Rattle.letters.proofs.UnderWay.{made_body}
-use borrow.Author.Rules.{rules}
 use Rattle.letters.proofs.letter_word.Goals as goal
 
 pub returns-in-0 : goal.returns-in-0

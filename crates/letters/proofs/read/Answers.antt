@@ -3,10 +3,9 @@ use mathlib.Core.Path.{sym, ◌∙◌}
 use native.Mathlib.Omega.{arith}
 use lib.ListN.{length}
 use Rattle.reading.proofs.Laws.{step_end}
-use Rattle.letters.proofs.Steps.{Stepped, stepped, first_block}
-use Prim.Native.Nat.{◌+◌, ◌-◌}
-use Rattle.letters.proofs.UnderWay.{Reading, read_starts, read_passes, read_inside, read_goes, read_ends}
-use borrow.Author.Rules.{rules}
+use Rattle.letters.proofs.Steps.{stepped, first_block}
+use Prim.Native.Nat.{◌-◌}
+use Rattle.letters.proofs.UnderWay.{read_starts, read_passes, read_inside, read_goes, read_ends}
 use Rattle.letters.proofs.read.Goals as goal
 
 pub overflow_sub-before : goal.overflow_sub-before

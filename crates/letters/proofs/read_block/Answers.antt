@@ -3,7 +3,6 @@ use mathlib.Core.Path.{ap}
 use Prim.Native.Nat.{ℕ, ◌+◌}
 use lib.ListN.{length}
 use Rattle.letters.proofs.Steps.{piece-long, piece-got}
-use borrow.Author.Rules.{rules}
 use Rattle.letters.proofs.read_block.Goals as goal
 
 pub returns : goal.returns

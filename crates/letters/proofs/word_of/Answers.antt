@@ -3,7 +3,6 @@ use native.Mathlib.Omega.{arith}
 use native.Mathlib.Nat.{div-le_self}
 use Prim.Native.Nat.{◌-◌}
 use Rattle.letters.proofs.Steps.{word-walks, owner_in, word_fits, word_is}
-use borrow.Author.Rules.{rules}
 use Rattle.letters.proofs.word_of.Goals as goal
 
 pub overflow_add-k : goal.overflow_add-k

@@ -1,8 +1,6 @@
 -- `letters::write` meets its contract: what is still to be laid from here on makes the whole letter. Assumes nothing.
 use native.Mathlib.Omega.{arith}
-use Rattle.letters.specs.Made.{letter_of}
-use Rattle.letters.proofs.UnderWay.{made_long, Writing, write_starts, write_inside, write_goes, write_ends}
-use borrow.Author.Rules.{rules}
+use Rattle.letters.proofs.UnderWay.{made_long, write_starts, write_inside, write_goes, write_ends}
 use Rattle.letters.proofs.write.Goals as goal
 
 pub loop-owed-init : goal.loop-owed-init

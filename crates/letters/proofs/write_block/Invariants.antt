@@ -1,12 +1,9 @@
 -- `letters::write_block` meets its contract: after i turns the first i words stand. Assumes nothing.
-use mathlib.Core.Path.{◌≡◌, refl, ◌∙◌}
+use mathlib.Core.Path.{◌≡◌}
 use Prim.Native.Nat.{◌-◌, ◌≤◌}
-use native.Mathlib.Omega.{arith}
-use lib.ListN.{length, take, drop, length-set}
+use lib.ListN.{length, take, drop}
 use lib.Seq.{sets}
 use Rattle.letters.specs.Made.{letter_of}
-use Rattle.letters.proofs.UnderWay.{block_more, block_all}
-use borrow.Author.Rules.{rules}
 use Rattle.letters.proofs.write_block.Given as goal
 
 abbrev pub invariant-loop-i : goal.invariant-loop-i

@@ -1,10 +1,8 @@
 -- `listing::add_up` meets its contract: after each turn the tasks below t have their ranks. Assumes nothing.
 use mathlib.Core.Path.{◌≡◌}
-use Prim.Native.Nat.{◌-◌}
 use native.Mathlib.Omega.{arith}
 use Rattle.listing.specs.Asked.{numbers}
-use Rattle.listing.proofs.Adding.{Adding, adding_none, adding_more, adding_few, adding_all}
-use borrow.Author.Rules.{rules}
+use Rattle.listing.proofs.Adding.{adding_none, adding_more, adding_few, adding_all}
 use Rattle.listing.proofs.add_up.Goals as goal
 
 pub loop-t-init : goal.loop-t-init

@@ -5,7 +5,6 @@ use native.Mathlib.Omega.{arith}
 use lib.ListN.{length-set}
 use Rattle.layout.specs.Numbers.{list_words}
 use Rattle.listing.proofs.Laying.{six, letter-room, letter_none}
-use borrow.Author.Rules.{rules}
 use Rattle.listing.proofs.lay.Goals as goal
 
 pub bounds-out-at-then-at-out : goal.bounds-out-at-then-at-out

@@ -1,8 +1,6 @@
 -- `listing::list` meets its contract: the memory is tested, then its letters are listed. Assumes nothing.
 use mathlib.Core.Path.{sym, ◌∙◌}
-use borrow.Author.Tests.{not-true, not-false}
 use Rattle.listing.proofs.Outcomes.{not_sound_lem}
-use borrow.Author.Rules.{rules}
 use Rattle.listing.proofs.list.Goals as goal
 
 pub returns-then-not-is_sound : goal.returns-then-not-is_sound

@@ -3,7 +3,6 @@ use mathlib.Core.Path.{ap}
 use native.Mathlib.Omega.{arith}
 use Rattle.listing.specs.Asked.{placed}
 use Rattle.listing.proofs.Placing.{rows}
-use borrow.Author.Rules.{rules}
 use Rattle.listing.proofs.list_letter.Goals as goal
 
 pub overflow_add-ranks : goal.overflow_add-ranks

@@ -5,7 +5,6 @@ use Rattle.listing.specs.Asked.{kept_below}
 use Rattle.listing.proofs.Few.{few_below}
 use Rattle.listing.proofs.Letters.{letters_all}
 use Rattle.listing.proofs.Placing.{rows, so_low}
-use borrow.Author.Rules.{rules}
 use Rattle.listing.proofs.list_letters.Goals as goal
 
 pub list_tasks-requires : goal.list_tasks-requires

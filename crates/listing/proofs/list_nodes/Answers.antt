@@ -1,13 +1,11 @@
 -- `listing::list_nodes` meets its contract: after c turns the letters that wait in the first c send queues are placed. Assumes nothing.
 use mathlib.Core.Path.{◌≡◌}
-use Prim.Native.Nat.{◌-◌, ◌≤◌}
 use native.Mathlib.Nat.{mod-lt, div-lt_iff_lt-mul}
 use native.Mathlib.Omega.{arith}
-use Rattle.listing.specs.Asked.{placed, sent_below}
+use Rattle.listing.specs.Asked.{sent_below}
 use Rattle.listing.proofs.Few.{few-sent}
 use Rattle.listing.proofs.Letters.{queues_start, queues_more}
 use Rattle.listing.proofs.Placing.{rows, so_low, so_long}
-use borrow.Author.Rules.{rules}
 use Rattle.listing.proofs.list_nodes.Goals as goal
 
 pub loop-c-init : goal.loop-c-init

@@ -1,17 +1,14 @@
 -- `listing::list_send_queue` meets its contract: after each turn the letters of the items from the first that is not left out up to place c are placed. Assumes nothing.
 use mathlib.Core.Path.{◌≡◌}
-use Prim.Native.Nat.{ℕ, ◌-◌, ◌≤◌, ◌<◌}
+use Prim.Native.Nat.{ℕ, ◌-◌}
 use native.Mathlib.Omega.{arith}
-use Rattle.layout.specs.Places.{task_ids, send_at, node}
-use Rattle.queues.specs.Queue.{send_kind, items, run}
-use Rattle.showing.specs.Asked.{Begins}
+use Rattle.layout.specs.Places.{send_at, node}
+use Rattle.queues.specs.Queue.{send_kind, items}
 use Rattle.showing.proofs.Waiting.{waiting-run}
-use Rattle.listing.specs.Asked.{placed, sent_from}
-use Rattle.listing.proofs.Given.{asked-sized, asked-long, Read, read_place, read_item, send-queue, read_send, sent-begins, sent-named, shown_for}
+use Rattle.listing.proofs.Given.{asked-sized, asked-long, read_place, read_item, send-queue, read_send, sent-begins, sent-named, shown_for}
 use Rattle.listing.proofs.Few.{so_sent}
 use Rattle.listing.proofs.Letters.{sent_start, sent_more}
 use Rattle.listing.proofs.Placing.{rows, so_long}
-use borrow.Author.Rules.{rules}
 use Rattle.listing.proofs.list_send_queue.Goals as goal
 
 pub send_at-at-requires : goal.send_at-at-requires

@@ -1,7 +1,6 @@
 -- `listing::list_sound` meets its contract: the letters are counted, then laid. Assumes nothing.
 use native.Mathlib.Omega.{arith}
 use Rattle.listing.proofs.Outcomes.{asked, sound-long, zeroes-low, row-long, sum-few, out_short, ranks-low, out-done}
-use borrow.Author.Rules.{rules}
 use Rattle.listing.proofs.list_sound.Goals as goal
 
 pub settings_in-s-requires : goal.settings_in-s-requires

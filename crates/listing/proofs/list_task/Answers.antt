@@ -5,7 +5,6 @@ use Rattle.tasks.proofs.Laws.{told_at, told-unbound}
 use Rattle.listing.proofs.Given.{asked-long, asked-table, told-seat}
 use Rattle.listing.proofs.Letters.{task_none, task_all}
 use Rattle.listing.proofs.Placing.{rows}
-use borrow.Author.Rules.{rules}
 use Rattle.listing.proofs.list_task.Goals as goal
 
 pub slice_bounds-seat_of-end : goal.slice_bounds-seat_of-end

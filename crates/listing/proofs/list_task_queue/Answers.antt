@@ -1,17 +1,12 @@
 -- `listing::list_task_queue` meets its contract: after c turns the letters of the first c items are placed. Assumes nothing.
 use mathlib.Core.Path.{◌≡◌}
-use Prim.Native.Nat.{◌-◌, ◌≤◌}
 use native.Mathlib.Omega.{arith}
 use Rattle.layout.specs.Places.{task_at, node}
-use Rattle.queues.specs.Queue.{task_kind, items, run}
-use Rattle.queues.specs.Items.{live}
-use Rattle.showing.specs.List.{from_task}
-use Rattle.listing.specs.Asked.{placed}
-use Rattle.listing.proofs.Given.{asked-sized, Read, read_place, read_item, task_queue, read_task, kept-begins, shown_for}
+use Rattle.queues.specs.Queue.{task_kind, items}
+use Rattle.listing.proofs.Given.{asked-sized, read_place, read_item, task_queue, read_task, kept-begins, shown_for}
 use Rattle.listing.proofs.Few.{so_kept}
 use Rattle.listing.proofs.Letters.{kept_start, kept-gap, kept_more}
 use Rattle.listing.proofs.Placing.{rows, so_long}
-use borrow.Author.Rules.{rules}
 use Rattle.listing.proofs.list_task_queue.Goals.{then-b-ne0, else-b-ne0}
 use Rattle.listing.proofs.list_task_queue.Goals as goal
 

@@ -1,12 +1,8 @@
 -- `listing::list_tasks` meets its contract: after each turn the letters of the queues of the tasks below `task` are placed. Assumes nothing.
 use mathlib.Core.Path.{◌≡◌}
 use Prim.Native.Nat.{◌-◌, ◌≤◌}
-use native.Mathlib.Omega.{arith}
 use Rattle.listing.specs.Asked.{placed, kept_below}
-use Rattle.listing.proofs.Few.{few_below}
-use Rattle.listing.proofs.Letters.{tasks_start, tasks_more}
-use Rattle.listing.proofs.Placing.{rows, so_low, so_long}
-use borrow.Author.Rules.{rules}
+use Rattle.listing.proofs.Placing.{rows}
 use Rattle.listing.proofs.list_tasks.Given as goal
 
 abbrev pub invariant-loop-task : goal.invariant-loop-task

@@ -1,5 +1,4 @@
 -- `listing::number_of` meets its contract. Assumes nothing.
-use borrow.Author.Rules.{rules}
 use Rattle.listing.proofs.number_of.Goals as goal
 
 pub returns-in-Done : goal.returns-in-Done

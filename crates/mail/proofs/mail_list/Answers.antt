@@ -1,5 +1,4 @@
 -- `mail::mail_list` meets its contract. Assumes nothing.
-use borrow.Author.Rules.{rules}
 use Rattle.mail.proofs.Door.{lists}
 use Rattle.mail.proofs.mail_list.Goals as goal
 

@@ -1,5 +1,4 @@
 -- `mail::mail_receive` meets its contract. Assumes nothing.
-use borrow.Author.Rules.{rules}
 use Rattle.mail.proofs.Door.{receives}
 use Rattle.mail.proofs.mail_receive.Goals as goal
 

@@ -1,5 +1,4 @@
 -- `mail::mail_send` meets its contract. Assumes nothing.
-use borrow.Author.Rules.{rules}
 use Rattle.mail.proofs.Door.{sends}
 use Rattle.mail.proofs.mail_send.Goals as goal
 

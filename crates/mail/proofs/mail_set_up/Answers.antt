@@ -1,5 +1,4 @@
 -- `mail::mail_set_up` meets its contract. Assumes nothing.
-use borrow.Author.Rules.{rules}
 use Rattle.mail.proofs.Door.{sets_up}
 use Rattle.mail.proofs.mail_set_up.Goals as goal
 

@@ -1,5 +1,4 @@
 -- `mail::mail_turn` meets its contract. Assumes nothing.
-use borrow.Author.Rules.{rules}
 use Rattle.mail.proofs.Door.{turns}
 use Rattle.mail.proofs.mail_turn.Goals as goal
 

@@ -1,7 +1,6 @@
 -- `mailrun::bind` meets its contract. Assumes nothing.
 use native.Mathlib.Omega.{arith}
 use lib.ListN.{length-set}
-use borrow.Author.Rules.{rules}
 use Rattle.mailrun.proofs.bind.Goals as goal
 
 pub bounds-table-task-2 : goal.bounds-table-task-2

@@ -1,7 +1,6 @@
 -- `mailrun::play` meets its contract: a law for each kind. Assumes nothing.
 use mathlib.Core.Path.{sym, ◌∙◌}
 use native.Mathlib.Omega.{arith}
-use borrow.Author.Rules.{rules}
 use Rattle.mailrun.proofs.Played.{turned_is, unknown_is, played_short, played-send, played-receive, played-turn, played_other}
 use Rattle.mailrun.proofs.play.Goals as goal
 

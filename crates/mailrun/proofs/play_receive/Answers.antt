@@ -1,7 +1,6 @@
 -- `mailrun::play_receive` meets its contract. Assumes nothing.
 use mathlib.Core.Path.{refl}
 use native.Mathlib.Omega.{arith}
-use borrow.Author.Rules.{rules}
 use Rattle.mailrun.proofs.Played.{received_is}
 use Rattle.mailrun.proofs.play_receive.Goals as goal
 

@@ -1,6 +1,5 @@
 -- `mailrun::send_through` meets its contract. Assumes nothing.
 use native.Mathlib.Omega.{arith}
-use borrow.Author.Rules.{rules}
 use Rattle.mailrun.proofs.Played.{sent_is}
 use Rattle.mailrun.proofs.send_through.Goals as goal
 

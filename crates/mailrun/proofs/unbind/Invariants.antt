@@ -1,9 +1,7 @@
 -- `mailrun::unbind` meets its contract: it ends, within the table. Assumes nothing.
 use mathlib.Core.Path.{◌≡◌}
 use Prim.Native.Nat.{◌≤◌, ◌-◌}
-use native.Mathlib.Omega.{arith}
-use lib.ListN.{length, length-set}
-use borrow.Author.Rules.{rules}
+use lib.ListN.{length}
 use Rattle.mailrun.proofs.unbind.Given as goal
 
 abbrev pub invariant-loop-i : goal.invariant-loop-i

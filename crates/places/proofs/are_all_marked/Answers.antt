@@ -1,14 +1,11 @@
 -- `places::are_all_marked` meets its contract. Assumes nothing.
-use mathlib.Core.Path.{◌≡◌, refl}
-use mathlib.Core.Bool.{true}
-use Prim.Native.Nat.{suc, ◌≤◌, ◌-◌}
+use mathlib.Core.Path.{refl}
+use Prim.Native.Nat.{suc}
 use native.Mathlib.Omega.{arith}
 use native.Mathlib.Numerals.{add-one}
 use lib.Dec.{eqb}
 use lib.ListN.{get_or}
-use borrow.Author.Rules.{rules}
 use borrow.Author.Tests.{eq-eqb, ne_eqb}
-use Rattle.words.specs.Words.{every}
 use Rattle.sound.proofs.Tests.{every_none, turn_no, turn_more, turn_all}
 use Rattle.places.specs.Given.{all_marked}
 use Rattle.places.proofs.are_all_marked.Goals as goal

@@ -1,14 +1,6 @@
 -- `places::are_right_letters` meets its contract. Assumes nothing.
-use mathlib.Core.Path.{refl, ap}
-use mathlib.Core.List.{List}
-use Prim.Native.Nat.{ℕ, ◌≤◌, ◌-◌}
-use native.Mathlib.Omega.{arith}
-use borrow.Author.Rules.{rules}
-use borrow.Author.Tests.{not-true, not-false}
-use Rattle.layout.proofs.Fits.{nodes_fit}
-use Rattle.queues.specs.Queue.{items}
-use Rattle.places.proofs.Begun.{judged_lent}
-use Rattle.places.proofs.Turns.{Turn, turn_start, turn_end, turn_bad, turn_next}
+use Prim.Native.Nat.{◌≤◌, ◌-◌}
+use Rattle.places.proofs.Turns.{Turn}
 use Rattle.places.proofs.are_right_letters.Given as goal
 
 abbrev pub invariant-loop-c : goal.invariant-loop-c

@@ -1,6 +1,4 @@
 -- `places::are_right_places` meets its contract. Assumes nothing.
-use borrow.Author.Rules.{rules}
-use borrow.Author.Tests.{not-true, not-false}
 use Rattle.places.proofs.Ranges.{hand_no, sends_no, acks_no, tasks_last}
 use Rattle.places.proofs.are_right_places.Goals as goal
 

@@ -1,16 +1,11 @@
 -- `places::are_right_tasks` meets its contract. Assumes nothing.
 use mathlib.Core.Path.{◌≡◌}
 use mathlib.Core.Bool.{true}
-use Prim.Native.Nat.{◌+◌, ◌≤◌, ◌-◌}
-use native.Mathlib.Omega.{arith}
-use borrow.Author.Rules.{rules}
-use borrow.Author.Tests.{not-true, not-false}
+use Prim.Native.Nat.{◌≤◌, ◌-◌}
 use Rattle.words.specs.Words.{every}
-use Rattle.sound.proofs.Tests.{every_none}
 use Rattle.visits.specs.Marks.{marked}
 use Rattle.places.specs.Given.{standing_from}
-use Rattle.places.proofs.Ranges.{right_at, range_none, range_end, range_bad, range_next}
-use Rattle.places.proofs.Begun.{task_place, judged_at}
+use Rattle.places.proofs.Ranges.{right_at}
 use Rattle.places.proofs.are_right_tasks.Given as goal
 
 abbrev pub invariant-loop-q : goal.invariant-loop-q

@@ -1,6 +1,5 @@
 -- `places::is_right_free` meets its contract. Assumes nothing.
 use native.Mathlib.Omega.{arith}
-use borrow.Author.Rules.{rules}
 use Rattle.blocks.proofs.Steps.{head_fits}
 use Rattle.places.proofs.Once.{free_bad, free_good}
 use Rattle.places.proofs.is_right_free.Goals as goal

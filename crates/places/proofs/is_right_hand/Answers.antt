@@ -1,6 +1,5 @@
 -- `places::is_right_hand` meets its contract. Assumes nothing.
 use native.Mathlib.Omega.{arith}
-use borrow.Author.Rules.{rules}
 use Rattle.layout.proofs.Fits.{nodes_fit}
 use Rattle.visits.specs.declared.Asks.TheVariants.{Any}
 use Rattle.places.proofs.Ranges.{range_one}

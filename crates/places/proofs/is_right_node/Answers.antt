@@ -1,7 +1,5 @@
 -- `places::is_right_node` meets its contract. Assumes nothing.
 use mathlib.Core.Path.{sym, ◌∙◌}
-use borrow.Author.Rules.{rules}
-use borrow.Author.Tests.{not-true, not-false}
 use Rattle.places.proofs.Once.{free_no, places_no, node_is}
 use Rattle.places.proofs.is_right_node.Goals as goal
 

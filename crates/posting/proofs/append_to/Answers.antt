@@ -1,7 +1,6 @@
 -- `posting::append_to` meets its contract: by which queue the goal is. Assumes nothing.
 use Rattle.posting.proofs.Frames.{appended_task, appended-node}
 use Rattle.posting.proofs.Rooms.{queued_task, queued-node}
-use borrow.Author.Rules.{rules}
 use Rattle.posting.proofs.append_to.Goals as goal
 
 pub task_at-at-requires : goal.task_at-at-requires

@@ -1,7 +1,6 @@
 -- `posting::count_full` meets its contract: by which queue the goal is. Assumes nothing.
 use Rattle.posting.proofs.Frames.{full_task, full_node}
 use Rattle.posting.proofs.Rooms.{queued_task, queued-node}
-use borrow.Author.Rules.{rules}
 use Rattle.posting.proofs.count_full.Goals as goal
 
 pub task_at-at-requires : goal.task_at-at-requires

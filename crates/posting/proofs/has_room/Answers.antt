@@ -1,6 +1,5 @@
 -- `posting::has_room_lem` meets its contract: by which queue the goal is. Assumes nothing.
 use Rattle.posting.proofs.Rooms.{queued_task, queued-node, room_task, room-node}
-use borrow.Author.Rules.{rules}
 use Rattle.posting.proofs.has_room.Goals as goal
 
 pub task_at-requires : goal.task_at-requires

@@ -3,10 +3,8 @@ use Rattle.letters.specs.Made.{letter_of}
 use Rattle.letters.proofs.UnderWay.{needs_made}
 use Rattle.posting.proofs.Frames.{posts-takes, post-few, post_full, post-done}
 use Rattle.blocks.proofs.Steps.{head_fits}
-use borrow.Author.Tests.{not-true, not-false}
 use native.Mathlib.Omega.{arith}
 use mathlib.Core.Path.{sym, ◌∙◌}
-use borrow.Author.Rules.{rules}
 use Rattle.posting.proofs.post.Goals as goal
 
 pub has_blocks-requires : goal.has_blocks-requires

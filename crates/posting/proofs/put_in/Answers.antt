@@ -3,7 +3,6 @@ use Rattle.letters.specs.Made.{letter_of}
 use Rattle.letters.proofs.UnderWay.{made_long, needs_made}
 use Rattle.posting.proofs.Frames.{posts-takes, never_short, put-lies, put-aims, put_is}
 use mathlib.Core.Path.{sym, ◌∙◌}
-use borrow.Author.Rules.{rules}
 use Rattle.posting.proofs.put_in.Goals as goal
 
 pub take-requires : goal.take-requires

@@ -1,6 +1,5 @@
 -- `posting::send_has_room` meets its contract: by the items. Assumes nothing.
 use Rattle.posting.proofs.Rooms.{send_below}
-use borrow.Author.Rules.{rules}
 use Rattle.posting.proofs.send_has_room.Goals as goal
 
 pub returns : goal.returns

@@ -1,6 +1,5 @@
 -- `posting::task_has_room` meets its contract: by the items and the gap flag. Assumes nothing.
 use Rattle.posting.proofs.Rooms.{task_below, task_flag}
-use borrow.Author.Rules.{rules}
 use Rattle.posting.proofs.task_has_room.Goals as goal
 
 pub returns-then-node-q : goal.returns-then-node-q

@@ -3,9 +3,6 @@ use borrow.Author.Tests.{lt-ltb, le-ltb}
 use lib.ListN.{length-set}
 use native.Mathlib.Omega.{arith}
 use Rattle.postman.specs.Position.{standing, kept}
-use borrow.Author.Rules.{rules}
-use Rattle.postman.proofs.keep.Reads as reads
-use Rattle.postman.proofs.keep.Lts as lts
 use Rattle.postman.proofs.keep.Goals as goal
 
 -- src/lib.rt:52:5

@@ -1,5 +1,4 @@
 -- `postman::start` meets its contract. Assumes nothing.
-use borrow.Author.Rules.{rules}
 use Rattle.postman.proofs.start.Goals as goal
 
 pub returns : goal.returns

@@ -1,5 +1,4 @@
 -- `postman::stop` meets its contract. Assumes nothing.
-use borrow.Author.Rules.{rules}
 use Rattle.postman.proofs.stop.Goals as goal
 
 pub returns : goal.returns

@@ -3,7 +3,6 @@ use lib.ListN.{length-set}
 use Rattle.queues.specs.Moves.{appended, append_answer, added}
 use borrow.Author.Tests.{lt-ltb, le-ltb}
 use native.Mathlib.Omega.{arith}
-use borrow.Author.Rules.{rules}
 use Rattle.queues.proofs.append.Goals as goal
 
 pub overflow_cast-first : goal.overflow_cast-first

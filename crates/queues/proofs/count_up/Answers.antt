@@ -1,6 +1,5 @@
 -- `queues::count_up` meets its contract. Assumes nothing.
 use Rattle.queues.specs.Moves.{counted}
-use borrow.Author.Rules.{rules}
 use Rattle.queues.proofs.count_up.Goals as goal
 
 pub returns : goal.returns

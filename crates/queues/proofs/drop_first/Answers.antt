@@ -4,7 +4,6 @@ use Prim.Native.Nat.{ℕ, ◌+◌, ◌-◌}
 use lib.ListN.{get_or, set, length-set}
 use Rattle.queues.specs.Moves.{dropped}
 use native.Mathlib.Omega.{arith}
-use borrow.Author.Rules.{rules}
 use Rattle.queues.proofs.Slots.{slot_past}
 use Rattle.queues.proofs.drop_first.Goals as goal
 

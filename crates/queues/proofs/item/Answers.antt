@@ -1,6 +1,5 @@
 -- `queues::item` meets its contract. Assumes nothing.
 use native.Mathlib.Omega.{arith}
-use borrow.Author.Rules.{rules}
 use Rattle.queues.proofs.item.Goals as goal
 
 pub overflow_cast-first : goal.overflow_cast-first

@@ -1,5 +1,4 @@
 -- `queues::slot_at` meets its contract. Assumes nothing.
-use borrow.Author.Rules.{rules}
 use native.Mathlib.Omega.{arith}
 use Rattle.queues.proofs.Slots.{slot_below, slot_over}
 use Rattle.queues.proofs.slot_at.Goals as goal

@@ -1,7 +1,6 @@
 -- `receive::collect` meets its contract: the stretch is lent and comes back. Assumes nothing.
 use Rattle.receive.proofs.Sounds.{seated_front, lent_fits, lent-kept, lent_back}
 use native.Mathlib.Omega.{arith}
-use borrow.Author.Rules.{rules}
 use Rattle.receive.proofs.collect.Goals as goal
 
 pub settings_in-s-requires : goal.settings_in-s-requires

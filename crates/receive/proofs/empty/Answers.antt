@@ -2,7 +2,6 @@
 use Rattle.receive.proofs.Chains.{leaves_most, leaves_walks, leaves_is}
 use mathlib.Core.Path.{refl}
 use native.Mathlib.Omega.{arith}
-use borrow.Author.Rules.{rules}
 use Rattle.receive.proofs.empty.Goals as goal
 
 pub overflow_add-n : goal.overflow_add-n

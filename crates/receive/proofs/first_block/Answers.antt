@@ -1,6 +1,5 @@
 -- `receive::first_block` meets its contract. Assumes nothing.
 use native.Mathlib.Omega.{arith}
-use borrow.Author.Rules.{rules}
 use Rattle.receive.proofs.first_block.Goals as goal
 
 pub item-requires : goal.item-requires

@@ -1,7 +1,6 @@
 -- `receive::in_vain` meets its contract: by whether the queue has reached its length. Assumes nothing.
 use Rattle.receive.proofs.Outcomes.{vain_filled, vain_not, vain_counted}
 use mathlib.Core.Path.{sym, ◌∙◌}
-use borrow.Author.Rules.{rules}
 use Rattle.receive.proofs.in_vain.Goals as goal
 
 pub returns-then-filled : goal.returns-then-filled

@@ -1,6 +1,5 @@
 -- `receive::is_filled` meets its contract: by its two tests. Assumes nothing.
 use Rattle.receive.proofs.Outcomes.{filled_any, filled_one}
-use borrow.Author.Rules.{rules}
 use Rattle.receive.proofs.is_filled.Goals as goal
 
 pub returns-then-source-eq0 : goal.returns-then-source-eq0

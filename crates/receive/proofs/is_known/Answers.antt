@@ -2,7 +2,6 @@
 use Rattle.receive.proofs.Seats.{known_any, known_seat, known_not}
 use Rattle.sound.specs.Reading.{table_in}
 use mathlib.Core.Path.{sym, ◌∙◌}
-use borrow.Author.Rules.{rules}
 use Rattle.receive.proofs.is_known.Goals as goal
 
 pub returns-then-source-eq0 : goal.returns-then-source-eq0

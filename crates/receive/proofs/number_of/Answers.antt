@@ -1,5 +1,4 @@
 -- `receive::number_of` meets its contract: by its seven cases. Assumes nothing.
-use borrow.Author.Rules.{rules}
 use Rattle.receive.proofs.number_of.Goals as goal
 
 pub returns-in-Done : goal.returns-in-Done

@@ -1,7 +1,6 @@
 -- `receive::read_body` meets its contract. Assumes nothing.
 use Rattle.receive.proofs.Bodies.{fits-lies, fits-back}
 use native.Mathlib.Omega.{arith}
-use borrow.Author.Rules.{rules}
 use Rattle.receive.proofs.read_body.Goals as goal
 
 pub read-requires : goal.read-requires

@@ -1,8 +1,6 @@
 -- `receive::receive` meets its contract: the memory is tested, then a letter is taken. Assumes nothing.
 use mathlib.Core.Path.{sym, ◌∙◌}
-use borrow.Author.Tests.{not-true, not-false}
 use Rattle.receive.proofs.Refused.{not_sound_lem}
-use borrow.Author.Rules.{rules}
 use Rattle.receive.proofs.receive.Goals as goal
 
 pub returns-then-not-is_sound : goal.returns-then-not-is_sound

@@ -2,10 +2,8 @@
 use Rattle.receive.proofs.Sounds.{seat-seated, sound_front, refused_first, refused_other, received_is}
 use Rattle.tasks.proofs.Laws.{told_at, told-unbound}
 use Rattle.sound.specs.Reading.{table_in}
-use borrow.Author.Tests.{not-true, not-false}
 use mathlib.Core.Path.{sym, ◌∙◌}
 use native.Mathlib.Omega.{arith}
-use borrow.Author.Rules.{rules}
 use Rattle.receive.proofs.receive_sound.Goals as goal
 
 pub slice_bounds-seat_of-end : goal.slice_bounds-seat_of-end

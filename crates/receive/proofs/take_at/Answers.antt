@@ -1,7 +1,6 @@
 -- `receive::take_at` meets its contract: by whether there is room. Assumes nothing.
 use Rattle.receive.proofs.Outcomes.{holds-whole, at_short, at_done}
 use Rattle.receive.proofs.Bodies.{lies_first}
-use borrow.Author.Rules.{rules}
 use Rattle.receive.proofs.take_at.Goals as goal
 
 pub body_length-length-requires : goal.body_length-length-requires

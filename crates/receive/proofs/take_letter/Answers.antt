@@ -1,7 +1,6 @@
 -- `receive::take_letter` meets its contract: by what is found. Assumes nothing.
 use Rattle.receive.proofs.Outcomes.{kept_findable, found-holds, found-took, vain_took}
 use mathlib.Core.Path.{sym, ◌∙◌}
-use borrow.Author.Rules.{rules}
 use Rattle.receive.proofs.take_letter.Goals as goal
 
 pub find-found-requires : goal.find-found-requires

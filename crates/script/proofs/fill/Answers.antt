@@ -1,5 +1,5 @@
 -- `script::fill` meets its contract: after i turns the first i words rise. Assumes nothing.
-use Rattle.std.proofs.Common.{◌≡◌, ◌+◌, ◌-◌, ◌%◌, ◌<◌, ◌≤◌, ◌++◌, length, drop, refl, ◌∙◌, arith, length-set, rules}
+use Rattle.std.proofs.Common.{◌≡◌, length, refl, ◌∙◌, arith, length-set, rules}
 use Rattle.script.specs.Words.{rising}
 use Rattle.script.proofs.Laws.{rising_more, rising_all, rising_first, rising_next}
 use Rattle.script.proofs.fill.Goals as goal

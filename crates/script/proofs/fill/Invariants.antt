@@ -1,7 +1,6 @@
 -- `script::fill` meets its contract: after i turns the first i words rise. Assumes nothing.
-use Rattle.std.proofs.Common.{◌≡◌, ◌+◌, ◌-◌, ◌%◌, ◌<◌, ◌≤◌, ◌++◌, length, drop, refl, ◌∙◌, arith, length-set, rules}
+use Rattle.std.proofs.Common.{◌≡◌, ◌+◌, ◌-◌, ◌%◌, ◌≤◌, ◌++◌, length, drop}
 use Rattle.script.specs.Words.{rising}
-use Rattle.script.proofs.Laws.{rising_more, rising_all, rising_first, rising_next}
 use Rattle.script.proofs.fill.Given as goal
 
 abbrev pub invariant-loop-i : goal.invariant-loop-i

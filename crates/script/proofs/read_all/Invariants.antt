@@ -1,5 +1,5 @@
 -- `script::read_all` meets its contract. Assumes nothing.
-use Rattle.std.proofs.Common.{◌≡◌, ◌-◌, ◌≤◌, length, rules}
+use Rattle.std.proofs.Common.{◌≡◌, ◌-◌, ◌≤◌, length}
 use Rattle.script.proofs.read_all.Given as goal
 
 abbrev pub invariant-loop-i : goal.invariant-loop-i

@@ -1,5 +1,5 @@
 -- `script::read_full` ends: each turn reads a byte or more. Assumes nothing.
-use Rattle.std.proofs.Common.{◌≡◌, ◌-◌, ◌≤◌, length}
+use Rattle.std.proofs.Common.{◌-◌, ◌≤◌, length}
 use Rattle.script.proofs.read_full.Given as goal
 
 abbrev pub invariant-loop-at : goal.invariant-loop-at

@@ -1,7 +1,6 @@
 -- `script::sum` meets its contract: what is summed and what is left make the sum. Assumes nothing.
-use Rattle.std.proofs.Common.{◌≡◌, ◌+◌, ◌-◌, ◌%◌, ◌<◌, ◌≤◌, ◌++◌, length, drop, refl, ◌∙◌, arith, length-set, rules}
+use Rattle.std.proofs.Common.{◌≡◌, ◌-◌, ◌<◌, length, drop}
 use Rattle.script.specs.Words.{summed, sum_of}
-use Rattle.script.proofs.Laws.{summed_more, summed_all}
 use Rattle.script.proofs.sum.Given as goal
 
 abbrev pub invariant-loop-i : goal.invariant-loop-i

@@ -1,6 +1,5 @@
 -- `send::body_fits` meets its contract: by the two tests. Assumes nothing.
 use Rattle.send.proofs.Outcomes.{too_long, by_blocks}
-use borrow.Author.Rules.{rules}
 use Rattle.send.proofs.body_fits.Goals as goal
 
 pub returns-then-n-gt1019 : goal.returns-then-n-gt1019

@@ -1,5 +1,4 @@
 -- `send::number_of` meets its contract: case by case. Assumes nothing.
-use borrow.Author.Rules.{rules}
 use Rattle.send.proofs.number_of.Goals as goal
 
 pub returns-in-Done : goal.returns-in-Done

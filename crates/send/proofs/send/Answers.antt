@@ -1,8 +1,6 @@
 -- `send::send` meets its contract: the memory is tested, then the letter is sent. Assumes nothing.
 use mathlib.Core.Path.{sym, ◌∙◌}
-use borrow.Author.Tests.{not-true, not-false}
 use Rattle.send.proofs.Refused.{not_sound_lem}
-use borrow.Author.Rules.{rules}
 use Rattle.send.proofs.send.Goals as goal
 
 pub returns-then-not-is_sound : goal.returns-then-not-is_sound

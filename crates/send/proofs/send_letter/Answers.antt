@@ -1,7 +1,6 @@
 -- `send::send_letter` meets its contract: the stretch that was lent comes back into the memory. Assumes nothing.
 use Rattle.letters.specs.Made.{letter_of}
 use Rattle.send.proofs.Outcomes.{posts-lent, posted-back}
-use borrow.Author.Rules.{rules}
 use Rattle.send.proofs.send_letter.Goals as goal
 
 pub post-requires : goal.post-requires

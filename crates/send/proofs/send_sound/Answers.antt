@@ -1,10 +1,8 @@
 -- `send::send_sound` meets its contract: each refusal by its test, else what a sound memory gives lets the letter be posted. Assumes nothing.
 use Rattle.send.proofs.Outcomes.{sound-long, out-source, out-destination, out_body, out-done, gives_delivers}
 use Rattle.sound.proofs.Gives.{gives_range}
-use borrow.Author.Tests.{not-true, not-false}
 use native.Mathlib.Omega.{arith}
 use mathlib.Core.Path.{sym, ◌∙◌}
-use borrow.Author.Rules.{rules}
 use Rattle.send.proofs.send_sound.Goals as goal
 
 pub settings_in-s-requires : goal.settings_in-s-requires

@@ -3,7 +3,6 @@ use mathlib.Core.Path.{ap}
 use native.Mathlib.Omega.{arith}
 use lib.ListN.{length, length-set}
 use Rattle.setup.specs.Fresh.{fresh_head}
-use borrow.Author.Rules.{rules}
 use Rattle.setup.proofs.lay_head.Goals as goal
 
 pub bounds-head-0 : goal.bounds-head-0

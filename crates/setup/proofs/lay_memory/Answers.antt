@@ -3,7 +3,6 @@ use mathlib.Core.Path.{◌∙◌}
 use mathlib.Core.List.{List}
 use Prim.Native.Nat.{ℕ, ◌-◌}
 use native.Mathlib.Omega.{arith}
-use borrow.Author.Rules.{rules}
 use borrow.Rule.Slice.PartMut.{put_mid, same_len_mid}
 use Rattle.layout.proofs.Fits.{nodes_fit}
 use Rattle.setup.proofs.Laws.{cleared, head_next, nodes_start, memory-back}

@@ -1,14 +1,9 @@
 -- `setup::lay_node` meets its contract: after b turns b blocks are linked. Assumes nothing.
-use mathlib.Core.Path.{◌≡◌, sym, ap, ◌∙◌}
-use mathlib.Core.List.{List}
-use Prim.Native.Nat.{ℕ, ◌+◌, ◌-◌, ◌≤◌, ◌<◌}
-use native.Mathlib.Omega.{arith}
-use lib.ListN.{length, set, replicate, length-set, length-replicate}
-use borrow.Author.Rules.{rules}
-use Rattle.settings.specs.declared.Settings.{Settings}
+use mathlib.Core.Path.{◌≡◌}
+use Prim.Native.Nat.{◌-◌, ◌≤◌, ◌<◌}
+use lib.ListN.{length}
 use Rattle.layout.specs.Places.{link_at, node_size}
-use Rattle.layout.proofs.Fits.{node-small}
-use Rattle.setup.proofs.Laws.{some_words, linked, linked_none, linked_turn, linked_all, link_in_lem, link_next}
+use Rattle.setup.proofs.Laws.{linked}
 use Rattle.setup.proofs.lay_node.Given as goal
 
 abbrev pub invariant-loop-b : goal.invariant-loop-b

@@ -1,14 +1,14 @@
 -- `setup::lay_nodes` meets its contract: after i turns i stretches are laid. Assumes nothing.
 use mathlib.Core.Path.{◌≡◌, refl, ◌∙◌}
-use Prim.Native.Nat.{ℕ, ◌≤◌, ◌-◌, ◌+◌}
+use Prim.Native.Nat.{ℕ, ◌-◌, ◌+◌}
 use native.Mathlib.Omega.{arith}
-use lib.ListN.{length, take}
+use lib.ListN.{take}
 use lib.Seq.{length-take-le}
 use borrow.Author.Rules.{rules}
 use borrow.Rule.Slice.PartMut.{same_len_mid}
 use Rattle.layout.specs.Places.{nodes_at}
 use Rattle.layout.proofs.Fits.{nodes_fit}
-use Rattle.setup.proofs.Laws.{laid_nodes, nodes_none, nodes_next, nodes_all, node-back}
+use Rattle.setup.proofs.Laws.{nodes_none, nodes_next, nodes_all, node-back}
 use Rattle.setup.proofs.lay_nodes.Goals as goal
 
 pub loop-i-init : goal.loop-i-init

@@ -1,14 +1,9 @@
 -- `setup::lay_nodes` meets its contract: after i turns i stretches are laid. Assumes nothing.
-use mathlib.Core.Path.{◌≡◌, refl, ◌∙◌}
-use Prim.Native.Nat.{ℕ, ◌≤◌, ◌-◌, ◌+◌}
-use native.Mathlib.Omega.{arith}
+use mathlib.Core.Path.{◌≡◌}
+use Prim.Native.Nat.{◌≤◌, ◌-◌}
 use lib.ListN.{length, take}
-use lib.Seq.{length-take-le}
-use borrow.Author.Rules.{rules}
-use borrow.Rule.Slice.PartMut.{same_len_mid}
 use Rattle.layout.specs.Places.{nodes_at}
-use Rattle.layout.proofs.Fits.{nodes_fit}
-use Rattle.setup.proofs.Laws.{laid_nodes, nodes_none, nodes_next, nodes_all, node-back}
+use Rattle.setup.proofs.Laws.{laid_nodes}
 use Rattle.setup.proofs.lay_nodes.Given as goal
 
 abbrev pub invariant-loop-i : goal.invariant-loop-i

@@ -1,5 +1,4 @@
 -- `setup::number_of` meets its contract. Assumes nothing.
-use borrow.Author.Rules.{rules}
 use Rattle.setup.proofs.number_of.Goals as goal
 
 pub returns-in-Done : goal.returns-in-Done

@@ -1,13 +1,11 @@
 -- `setup::set_up` meets its contract: each refusal by its test, else the memory is laid. Assumes nothing.
 use mathlib.Core.Path.{sym, ap, ◌∙◌}
-use borrow.Author.Tests.{not-true, not-false}
 use Rattle.settings.specs.Made.{settings_of}
 use Rattle.settings.proofs.Laws.{told_refused, told_made, range-true}
 use Rattle.layout.specs.Places.{memory_size}
 use Rattle.tasks.proofs.Laws.{right_length_lem}
 use Rattle.setup.specs.Fresh.{fresh_memory}
 use Rattle.setup.proofs.Outcomes.{out_setting, out-table, out-size, out-done}
-use borrow.Author.Rules.{rules}
 use Rattle.setup.proofs.set_up.Goals as goal
 
 pub returns-in_default : goal.returns-in_default

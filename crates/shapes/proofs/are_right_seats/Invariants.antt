@@ -1,19 +1,13 @@
 -- `shapes::are_right_seats` meets its contract. Assumes nothing.
-use mathlib.Core.Path.{◌≡◌, ap}
+use mathlib.Core.Path.{◌≡◌}
 use mathlib.Core.Bool.{true}
 use Prim.Native.Nat.{◌≤◌, ◌-◌}
-use native.Mathlib.Omega.{arith}
 use lib.ListN.{get_or}
-use borrow.Author.Rules.{rules}
-use borrow.Author.Tests.{not-true, not-false}
 use Rattle.words.specs.Words.{every}
 use Rattle.layout.specs.Places.{task_at}
 use Rattle.tasks.specs.Seat.{seat_at}
-use Rattle.queues.specs.declared.Kind.{Kind}
 use Rattle.queues.specs.Queue.{task_kind}
-use Rattle.sound.proofs.Given.{placed_task}
-use Rattle.sound.proofs.Tests.{every_none, turn_no, turn_more, turn_all}
-use Rattle.shapes.specs.Shape.{right_seat, right_seats}
+use Rattle.shapes.specs.Shape.{right_seat}
 use Rattle.shapes.proofs.are_right_seats.Given as goal
 
 abbrev pub invariant-loop-q : goal.invariant-loop-q

@@ -1,17 +1,8 @@
 -- `shapes::are_right_sends` meets its contract. Assumes nothing.
-use mathlib.Core.Path.{◌≡◌}
-use mathlib.Core.Bool.{true}
-use Prim.Native.Nat.{◌≤◌, ◌-◌}
 use native.Mathlib.Omega.{arith}
-use lib.Dec.{eqb}
-use borrow.Author.Rules.{rules}
-use borrow.Author.Tests.{not-true, not-false}
-use Rattle.words.specs.Words.{every}
-use Rattle.layout.specs.Places.{send_at}
-use Rattle.queues.specs.Queue.{send_kind}
 use Rattle.sound.proofs.Given.{placed-send}
 use Rattle.sound.proofs.Tests.{every_none, turn_no, turn_more, turn_all}
-use Rattle.shapes.specs.Shape.{right_post, right_sends}
+use Rattle.shapes.specs.Shape.{right_sends}
 use Rattle.shapes.proofs.are_right_sends.Goals as goal
 
 pub loop-k-init : goal.loop-k-init

@@ -1,9 +1,8 @@
 -- `shapes::are_within` meets its contract. Assumes nothing.
-use mathlib.Core.Path.{◌≡◌, ap}
-use Prim.Native.Nat.{ℕ, ◌-◌, ◌≤◌}
+use mathlib.Core.Path.{ap}
+use Prim.Native.Nat.{ℕ}
 use native.Mathlib.Omega.{arith}
-use borrow.Author.Rules.{rules}
-use Rattle.queues.specs.Queue.{run, contents}
+use Rattle.queues.specs.Queue.{run}
 use Rattle.shapes.specs.Shape.{items_within}
 use Rattle.shapes.proofs.Steps.{within_low, within-high, within_more, within_none}
 use Rattle.shapes.proofs.are_within.Goals as goal

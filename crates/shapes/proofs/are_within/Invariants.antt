@@ -1,11 +1,8 @@
 -- `shapes::are_within` meets its contract. Assumes nothing.
-use mathlib.Core.Path.{◌≡◌, ap}
-use Prim.Native.Nat.{ℕ, ◌-◌, ◌≤◌}
-use native.Mathlib.Omega.{arith}
-use borrow.Author.Rules.{rules}
+use mathlib.Core.Path.{◌≡◌}
+use Prim.Native.Nat.{◌-◌, ◌≤◌}
 use Rattle.queues.specs.Queue.{run, contents}
 use Rattle.shapes.specs.Shape.{items_within}
-use Rattle.shapes.proofs.Steps.{within_low, within-high, within_more, within_none}
 use Rattle.shapes.proofs.are_within.Given as goal
 
 abbrev pub invariant-loop-i : goal.invariant-loop-i

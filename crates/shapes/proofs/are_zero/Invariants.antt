@@ -1,11 +1,8 @@
 -- `shapes::are_zero` meets its contract. Assumes nothing.
 use mathlib.Core.Path.{◌≡◌}
 use Prim.Native.Nat.{◌-◌, ◌≤◌}
-use native.Mathlib.Omega.{arith}
 use lib.Dec.{eqb}
-use borrow.Author.Rules.{rules}
 use Rattle.shapes.specs.Shape.{zeroes}
-use Rattle.shapes.proofs.Clear.{zero_none, zero_more}
 use Rattle.shapes.proofs.are_zero.Given as goal
 
 abbrev pub invariant-loop-i : goal.invariant-loop-i

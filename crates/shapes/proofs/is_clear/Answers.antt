@@ -1,8 +1,6 @@
 -- `shapes::is_clear` meets its contract. Assumes nothing.
 use mathlib.Core.Path.{sym, ◌∙◌}
 use native.Mathlib.Omega.{arith}
-use borrow.Author.Rules.{rules}
-use borrow.Author.Tests.{not-true, not-false}
 use Rattle.sound.proofs.Tests.{no_first, yes_first}
 use Rattle.shapes.proofs.Clear.{clear_none, clear_straight, clear_round}
 use Rattle.shapes.proofs.is_clear.Goals as goal

@@ -1,7 +1,6 @@
 -- `shapes::is_in_shape` meets its contract. Assumes nothing.
 use Prim.Native.Nat.{◌+◌}
 use native.Mathlib.Omega.{arith}
-use borrow.Author.Rules.{rules}
 use Rattle.shapes.proofs.Steps.{shape_start, shape_items, shape_clear}
 use Rattle.shapes.proofs.is_in_shape.Goals as goal
 

@@ -1,8 +1,6 @@
 -- `shapes::is_right_post` meets its contract. Assumes nothing.
 use mathlib.Core.Path.{sym, ap, ◌∙◌}
 use lib.Dec.{eqb}
-use borrow.Author.Rules.{rules}
-use borrow.Author.Tests.{not-true, not-false}
 use Rattle.sound.proofs.Shapes.{shape_queue}
 use Rattle.shapes.proofs.Steps.{post_shape, post_own, post_other}
 use Rattle.shapes.proofs.is_right_post.Goals as goal

@@ -4,8 +4,6 @@ use Prim.Native.Nat.{ℕ, ◌+◌}
 use native.Mathlib.Omega.{arith}
 use lib.Dec.{eqb}
 use lib.ListN.{get_or}
-use borrow.Author.Rules.{rules}
-use borrow.Author.Tests.{not-true, not-false}
 use Rattle.sound.proofs.Shapes.{shape_queue}
 use Rattle.shapes.proofs.Steps.{seat_shape, seat_empty, seat-unbound, seat-gap, seat-high, seat-flag}
 use Rattle.shapes.proofs.is_right_seat.Goals as goal

@@ -1,7 +1,5 @@
 -- `shapes::is_right_stretch` meets its contract. Assumes nothing.
 use mathlib.Core.Path.{sym, ◌∙◌}
-use borrow.Author.Rules.{rules}
-use borrow.Author.Tests.{not-true, not-false}
 use Rattle.sound.proofs.Tests.{no_first, yes_first}
 use Rattle.shapes.specs.Shape.{right_stretch}
 use Rattle.shapes.proofs.is_right_stretch.Goals as goal

@@ -2,7 +2,6 @@
 use mathlib.Core.List.{List}
 use mathlib.Core.Path.{ap, ◌∙◌}
 use Prim.Native.Nat.{ℕ}
-use borrow.Author.Rules.{rules}
 use Rattle.queues.specs.Queue.{item_at}
 use Rattle.showing.proofs.Given.{node-part}
 use Rattle.showing.proofs.item_in.Goals as goal

@@ -1,5 +1,4 @@
 -- `showing::left_out` meets its contract. Assumes nothing.
-use borrow.Author.Rules.{rules}
 use Rattle.showing.proofs.Waiting.{out-stage, out_other, out_one}
 use Rattle.showing.proofs.left_out.Goals as goal
 

@@ -1,5 +1,4 @@
 -- `showing::shown_at` meets its contract. Assumes nothing.
-use borrow.Author.Rules.{rules}
 use Rattle.showing.proofs.Given.{shown_is, told-least}
 use Rattle.showing.proofs.shown_at.Goals as goal
 

@@ -2,7 +2,6 @@
 use mathlib.Core.List.{List}
 use mathlib.Core.Path.{ap, ◌∙◌}
 use Prim.Native.Nat.{ℕ}
-use borrow.Author.Rules.{rules}
 use Rattle.letters.specs.Letter.{word}
 use Rattle.showing.proofs.Given.{node-part, begins-lies, begins-word}
 use Rattle.showing.proofs.word_in.Goals as goal

@@ -1,6 +1,5 @@
 -- `sound::settings_in` meets its contract. Assumes nothing.
 use native.Mathlib.Omega.{arith}
-use borrow.Author.Rules.{rules}
 use Rattle.sound.proofs.settings_in.Goals as goal
 
 pub overflow_cast-result : goal.overflow_cast-result

@@ -1,13 +1,7 @@
 -- `soundness::are_right_nodes` meets its contract. Assumes nothing.
 use Rattle.soundness.specs.Parts.{node_right}
 use Rattle.sound.proofs.Tests.{every_none, turn_no, turn_more, turn_all}
-use Rattle.words.specs.Words.{every}
-use borrow.Author.Tests.{not-true, not-false}
 use native.Mathlib.Omega.{arith}
-use Prim.Native.Nat.{◌≤◌, ◌-◌}
-use mathlib.Core.Bool.{true}
-use mathlib.Core.Path.{◌≡◌}
-use borrow.Author.Rules.{rules}
 use Rattle.soundness.proofs.are_right_nodes.Goals as goal
 
 pub loop-i-init : goal.loop-i-init

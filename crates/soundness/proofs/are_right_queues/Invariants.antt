@@ -1,14 +1,9 @@
 -- `soundness::are_right_queues` meets its contract. Assumes nothing.
-use mathlib.Core.Path.{◌≡◌, ◌∙◌}
+use mathlib.Core.Path.{◌≡◌}
 use mathlib.Core.Bool.{true}
 use Prim.Native.Nat.{◌≤◌, ◌-◌}
-use native.Mathlib.Omega.{arith}
-use borrow.Author.Rules.{rules}
-use borrow.Author.Tests.{not-true, not-false}
 use Rattle.words.specs.Words.{every}
 use Rattle.sound.specs.Queues.{right_queues}
-use Rattle.sound.proofs.Tests.{every_none, turn_no, turn_more, turn_all}
-use Rattle.shapes.proofs.Rule.{stretch-queues}
 use Rattle.soundness.proofs.are_right_queues.Given as goal
 
 abbrev pub invariant-loop-i : goal.invariant-loop-i

@@ -1,13 +1,9 @@
 -- `soundness::are_standing` meets its contract. Assumes nothing.
 use Rattle.places.specs.Given.{stands_right}
-use Rattle.sound.proofs.Tests.{every_none, turn_no, turn_more, turn_all}
 use Rattle.words.specs.Words.{every}
-use borrow.Author.Tests.{not-true, not-false}
-use native.Mathlib.Omega.{arith}
 use Prim.Native.Nat.{◌≤◌, ◌-◌}
 use mathlib.Core.Bool.{true}
 use mathlib.Core.Path.{◌≡◌}
-use borrow.Author.Rules.{rules}
 use Rattle.soundness.proofs.are_standing.Given as goal
 
 abbrev pub invariant-loop-j : goal.invariant-loop-j

@@ -1,6 +1,5 @@
 -- `soundness::is_other` meets its contract. Assumes nothing.
 use native.Mathlib.Omega.{arith}
-use borrow.Author.Rules.{rules}
 use Rattle.soundness.proofs.Places.{other-high, other_own, other-queue, other_is}
 use Rattle.soundness.proofs.is_other.Goals as goal
 

@@ -1,7 +1,6 @@
 -- `soundness::is_right_memory` meets its contract. Assumes nothing.
 use mathlib.Core.Path.{refl, sym, ◌∙◌}
 use native.Mathlib.Omega.{arith}
-use borrow.Author.Tests.{not-true, not-false}
 use Rattle.layout.proofs.Fits.{nodes_fit}
 use Rattle.sound.specs.Reading.{table_in}
 use Rattle.sound.proofs.Tests.{no_first, yes_first}

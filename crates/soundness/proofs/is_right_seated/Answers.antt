@@ -1,6 +1,5 @@
 -- `soundness::is_right_seated` meets its contract. Assumes nothing.
 use Rattle.soundness.proofs.Rules.{seated-queues, queued, seated-standing, looked, seated-nodes, lettered, seated_copies}
-use borrow.Author.Tests.{not-true, not-false}
 use mathlib.Core.Path.{sym, ◌∙◌}
 use Rattle.soundness.proofs.is_right_seated.Goals as goal
 

@@ -2,7 +2,6 @@
 use Rattle.soundness.proofs.Rules.{made_range}
 use Rattle.soundness.proofs.Rules.{sound_short, sound_refused, sound-range, sound-size, sound-turn, sound-rest}
 use mathlib.Core.Path.{sym, ◌∙◌}
-use borrow.Author.Rules.{rules}
 use Rattle.soundness.proofs.is_sound.Goals as goal
 
 pub returns-then-memory-lt536 : goal.returns-then-memory-lt536

@@ -1,11 +1,9 @@
 -- `soundness::is_standing` meets its contract. Assumes nothing.
 use Rattle.soundness.proofs.Places.{stand_still_no, stand_still, stand_high, stand_other, stand_empty, stand_holds, stand_free}
 use Rattle.layout.proofs.Fits.{nodes_fit}
-use borrow.Author.Tests.{not-true, not-false}
 use native.Mathlib.Omega.{arith}
 use Prim.Native.Nat.{◌+◌, ◌*◌}
 use mathlib.Core.Path.{sym, ◌∙◌}
-use borrow.Author.Rules.{rules}
 use Rattle.soundness.proofs.is_standing.Goals as goal
 
 pub offset_bounds-memory-at : goal.offset_bounds-memory-at

@@ -1,5 +1,4 @@
 -- `stages::copy_in` meets its contract. Assumes nothing.
-use borrow.Author.Rules.{rules}
 use Rattle.stages.proofs.Copying.{waits_first, waits-begins, waits-small, waits-takes, short_lent, short_is, first_copies, first_is}
 use Rattle.stages.proofs.copy_in.Goals as goal
 

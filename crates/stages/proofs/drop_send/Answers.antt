@@ -1,5 +1,4 @@
 -- `stages::drop_send` meets its contract. Assumes nothing.
-use borrow.Author.Rules.{rules}
 use Rattle.lending.proofs.Queues.{first-queue}
 use Rattle.stages.proofs.Copying.{first_some, first-dropped}
 use Rattle.stages.proofs.drop_send.Goals as goal

@@ -1,5 +1,4 @@
 -- `stages::give_back` meets its contract. Assumes nothing.
-use borrow.Author.Rules.{rules}
 use Rattle.stages.proofs.Giving.{owes-range, owes-queue, owes-begins, owes-small, owes-returns, gave_back}
 use Rattle.stages.proofs.give_back.Goals as goal
 

@@ -1,5 +1,4 @@
 -- `stages::put_ack` meets its contract. Assumes nothing.
-use borrow.Author.Rules.{rules}
 use Rattle.stages.proofs.Putting.{stands_first, stands-range, stands_ack, acknowledged_is}
 use Rattle.stages.proofs.put_ack.Goals as goal
 

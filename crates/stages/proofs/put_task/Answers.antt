@@ -1,5 +1,4 @@
 -- `stages::put_task` meets its contract. Assumes nothing.
-use borrow.Author.Rules.{rules}
 use Rattle.stages.proofs.Putting.{holds_addressed, holds-queue, queued_is}
 use Rattle.stages.proofs.put_task.Goals as goal
 

@@ -1,5 +1,4 @@
 -- `stages::stage_of` meets its contract. Assumes nothing.
-use borrow.Author.Rules.{rules}
 use Rattle.stages.proofs.Putting.{append_full}
 use Rattle.stages.proofs.stage_of.Goals as goal
 

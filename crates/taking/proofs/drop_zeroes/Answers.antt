@@ -3,12 +3,9 @@ use Rattle.queues.proofs.Views.{items-dropped, length-dropped}
 use Rattle.taking.proofs.Turns.{cleared_more, cleared-stop}
 use Rattle.taking.specs.Take.{cleared}
 use Rattle.queues.proofs.Views.{queue-dropped}
-use Rattle.queues.specs.Queue as queue
-use Rattle.queues.specs.Queue.{Queue}
 use lib.ListN.{length}
 use native.Mathlib.Omega.{arith}
 use mathlib.Core.Path.{◌≡◌, sym, ap, ◌∙◌, refl}
-use borrow.Author.Rules.{rules}
 use Rattle.taking.proofs.drop_zeroes.Goals as goal
 
 pub loop-left-init : goal.loop-left-init

@@ -1,14 +1,9 @@
 -- `taking::drop_zeroes` meets its contract: what is left to drop gives what is to come out. Assumes nothing.
-use Rattle.queues.proofs.Views.{items-dropped, length-dropped}
-use Rattle.taking.proofs.Turns.{cleared_more, cleared-stop}
 use Rattle.taking.specs.Take.{cleared}
-use Rattle.queues.proofs.Views.{queue-dropped}
 use Rattle.queues.specs.Queue as queue
 use Rattle.queues.specs.Queue.{Queue}
 use lib.ListN.{length}
-use native.Mathlib.Omega.{arith}
-use mathlib.Core.Path.{◌≡◌, sym, ap, ◌∙◌, refl}
-use borrow.Author.Rules.{rules}
+use mathlib.Core.Path.{◌≡◌}
 use Rattle.taking.proofs.drop_zeroes.Given as goal
 
 abbrev pub invariant-loop-left : goal.invariant-loop-left

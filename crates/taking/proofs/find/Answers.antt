@@ -1,11 +1,9 @@
 -- `taking::find` meets its contract: what is found from place i on is what is found at all. Assumes nothing.
 use Rattle.taking.proofs.Turns.{first_here, first-later, first_none, told_here, told_end, told_past}
-use Rattle.taking.specs.Find.{wanted, first_from, found}
+use Rattle.taking.specs.Find.{wanted, first_from}
 use Rattle.queues.specs.Queue.{items, run, task_kind}
-use Prim.Native.Nat.{◌-◌, ◌≤◌}
 use native.Mathlib.Omega.{arith}
-use mathlib.Core.Path.{◌≡◌, sym, ap, ◌∙◌}
-use borrow.Author.Rules.{rules}
+use mathlib.Core.Path.{sym, ap, ◌∙◌}
 use Rattle.taking.proofs.find.Goals as goal
 
 pub loop-i-init : goal.loop-i-init

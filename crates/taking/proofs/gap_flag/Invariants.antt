@@ -1,12 +1,9 @@
 -- `taking::gap_flag` meets its contract: the flag from place i on is the flag. Assumes nothing.
-use Rattle.taking.proofs.Turns.{flag-gap, flag-live, flag_none}
 use Rattle.queues.specs.Items.{gap_flag}
 use Rattle.queues.specs.Queue as queue
 use Rattle.queues.specs.Queue.{run, contents}
 use Prim.Native.Nat.{◌-◌, ◌≤◌}
-use native.Mathlib.Omega.{arith}
-use mathlib.Core.Path.{◌≡◌, sym, ap, ◌∙◌}
-use borrow.Author.Rules.{rules}
+use mathlib.Core.Path.{◌≡◌}
 use Rattle.taking.proofs.gap_flag.Given as goal
 
 abbrev pub invariant-loop-i : goal.invariant-loop-i

@@ -1,6 +1,5 @@
 -- `taking::is_from` meets its contract. Assumes nothing.
 use Rattle.taking.proofs.Turns.{from_any, from_one}
-use borrow.Author.Rules.{rules}
 use Rattle.taking.proofs.is_from.Goals as goal
 
 pub returns-then-source-eq0 : goal.returns-then-source-eq0

@@ -2,7 +2,6 @@
 use Rattle.taking.proofs.Turns.{seen_end, seen-gap, seen_here, seen_other}
 use native.Mathlib.Omega.{arith}
 use mathlib.Core.Path.{sym, ◌∙◌}
-use borrow.Author.Rules.{rules}
 use Rattle.taking.proofs.look.Goals as goal
 
 pub items_of-items-requires : goal.items_of-items-requires

@@ -3,7 +3,6 @@ use Rattle.taking.proofs.Turns.{out_first, out_further}
 use Rattle.queues.proofs.Views.{queue-dropped}
 use native.Mathlib.Omega.{arith}
 use mathlib.Core.Path.{◌∙◌}
-use borrow.Author.Rules.{rules}
 use Rattle.taking.proofs.take.Goals as goal
 
 pub drop_zeroes-requires : goal.drop_zeroes-requires

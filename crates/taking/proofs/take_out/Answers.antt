@@ -2,7 +2,6 @@
 use Rattle.queues.specs.Queue.{task_kind}
 use Rattle.taking.proofs.Turns.{taken_is}
 use Rattle.taking.proofs.Taken.{queue-out}
-use borrow.Author.Rules.{rules}
 use Rattle.taking.proofs.take_out.Goals as goal
 
 pub take-requires : goal.take-requires

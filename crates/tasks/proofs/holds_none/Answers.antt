@@ -3,7 +3,6 @@ use Prim.Native.Nat.{◌*◌}
 use lib.ListN.{get_or}
 use borrow.Author.Tests.{eq-eqb, ne_eqb}
 use Rattle.tasks.specs.Table.{holds_none}
-use borrow.Author.Rules.{rules}
 use Rattle.tasks.proofs.holds_none.Goals as goal
 
 pub returns-then-table-id-ne255 : goal.returns-then-table-id-ne255

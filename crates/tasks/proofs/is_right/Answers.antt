@@ -1,6 +1,5 @@
 -- `tasks::is_right` meets its contract. Assumes nothing.
 use Rattle.tasks.proofs.Laws.{wrong_length}
-use borrow.Author.Rules.{rules}
 use Rattle.tasks.proofs.is_right.Goals as goal
 
 pub returns-then-table-ne512 : goal.returns-then-table-ne512

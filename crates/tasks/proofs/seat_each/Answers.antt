@@ -1,11 +1,8 @@
 -- `tasks::seat_each` meets its contract: a seat is free while nobody sits there. Assumes nothing.
 use mathlib.Core.Path.{◌≡◌, sym, ◌∙◌}
 use mathlib.Core.Bool.{false≢true}
-use Prim.Native.Nat.{◌≤◌, ◌-◌}
 use native.Mathlib.Omega.{arith}
-use borrow.Author.Rules.{rules}
-use borrow.Author.Tests.{not-true, not-false}
-use Rattle.tasks.proofs.Marks.{Good, good_start, good_none, good-seat, bad_seat, bad_node, bad_queue, good_end}
+use Rattle.tasks.proofs.Marks.{good_start, good_none, good-seat, bad_seat, bad_node, bad_queue, good_end}
 use Rattle.tasks.proofs.seat_each.Goals.{then-not-holds_none+else-node-gt5+else-queue-gt63+else-seats-seat-ne0, else-not-holds_none}
 use Rattle.tasks.proofs.seat_each.Goals as goal
 

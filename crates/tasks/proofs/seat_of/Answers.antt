@@ -2,7 +2,6 @@
 use mathlib.Core.Path.{sym, ◌∙◌}
 use Rattle.tasks.proofs.Laws.{seat_over, seat_none, seat_at_lem}
 use native.Mathlib.Omega.{arith}
-use borrow.Author.Rules.{rules}
 use Rattle.tasks.proofs.seat_of.Goals as goal
 
 pub returns-then-task-gt255 : goal.returns-then-task-gt255

@@ -1,9 +1,7 @@
 -- `tasks::seat_tasks` meets its contract. Assumes nothing.
 use mathlib.Core.Path.{sym, ◌∙◌}
 use mathlib.Core.Bool.{false≢true}
-use borrow.Author.Tests.{not-true, not-false}
 use Rattle.tasks.proofs.Laws.{wrong_first, right_rest}
-use borrow.Author.Rules.{rules}
 use Rattle.tasks.proofs.seat_tasks.Goals as goal
 
 pub returns-then-not-holds_none : goal.returns-then-not-holds_none

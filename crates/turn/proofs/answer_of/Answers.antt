@@ -1,5 +1,4 @@
 -- `turn::answer_of` meets its contract. Assumes nothing.
-use borrow.Author.Rules.{rules}
 use Rattle.turn.proofs.Outcomes.{answered-done, answered-stop}
 use Rattle.turn.proofs.answer_of.Goals as goal
 

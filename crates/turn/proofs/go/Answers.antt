@@ -1,6 +1,5 @@
 -- `turn::go` meets its contract. Assumes nothing.
 use mathlib.Core.Path.{◌∙◌}
-use borrow.Author.Rules.{rules}
 use Rattle.carrying.proofs.Ways.{then_stop, then_go}
 use Rattle.stages_keep.specs.Steps.{gone}
 use Rattle.turn.proofs.Resumes.{resume_carries}

@@ -1,5 +1,4 @@
 -- `turn::number_of` meets its contract. Assumes nothing.
-use borrow.Author.Rules.{rules}
 use Rattle.turn.proofs.number_of.Goals as goal
 
 pub returns-in-Finished : goal.returns-in-Finished

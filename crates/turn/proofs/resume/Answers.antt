@@ -1,7 +1,6 @@
 -- `turn::resume` meets its contract. Assumes nothing.
 use mathlib.Core.Path.{sym, ◌∙◌}
 use native.Mathlib.Omega.{arith}
-use borrow.Author.Rules.{rules}
 use Rattle.turn.proofs.Resumes.{resumed_clear, resumed_two, resumed_three, at_three, resume_collects, resume_delivers}
 use Rattle.turn.proofs.resume.Goals as goal
 

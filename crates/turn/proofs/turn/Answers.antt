@@ -1,7 +1,5 @@
 -- `turn::turn` meets its contract. Assumes nothing.
 use mathlib.Core.Path.{sym, ◌∙◌}
-use borrow.Author.Tests.{not-true, not-false}
-use borrow.Author.Rules.{rules}
 use Rattle.turn.proofs.Outcomes.{not_sound_lem}
 use Rattle.turn.proofs.turn.Goals as goal
 

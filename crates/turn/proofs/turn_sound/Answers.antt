@@ -1,7 +1,6 @@
 -- `turn::turn_sound` meets its contract. Assumes nothing.
 use mathlib.Core.Path.{refl}
 use native.Mathlib.Omega.{arith}
-use borrow.Author.Rules.{rules}
 use Rattle.turn.proofs.Outcomes.{sound-long, sound-turn, sound-stands, sound-turned}
 use Rattle.turn.proofs.turn_sound.Goals as goal
 

@@ -1,6 +1,5 @@
 -- `visits::is_asked` meets its contract. Assumes nothing.
 use mathlib.Core.Path.{refl}
-use borrow.Author.Rules.{rules}
 use borrow.Author.Tests.{eq-eqb, ne_eqb}
 use Rattle.sound.proofs.Tests.{no_first, yes_first}
 use Rattle.visits.specs.Letters.{is_asked}

@@ -1,7 +1,6 @@
 -- `visits::is_on` meets its contract. Assumes nothing.
 use Rattle.visits.proofs.Judge.{on_no, on_at}
 use mathlib.Core.Path.{sym, ◌∙◌}
-use borrow.Author.Rules.{rules}
 use Rattle.visits.proofs.is_on.Goals as goal
 
 pub returns-in_default : goal.returns-in_default

@@ -1,8 +1,6 @@
 -- `visits::is_right_header` meets its contract. Assumes nothing.
 use native.Mathlib.Omega.{arith}
 use mathlib.Core.Path.{sym, ◌∙◌}
-use borrow.Author.Rules.{rules}
-use borrow.Author.Tests.{not-true, not-false}
 use Rattle.sound.specs.Letters.{words_from}
 use Rattle.visits.proofs.Judge.{header_first, header_second, header_yes}
 use Rattle.visits.proofs.Read.{head_word, word-lies}

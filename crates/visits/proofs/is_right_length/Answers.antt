@@ -1,7 +1,6 @@
 -- `visits::is_right_length` meets its contract. Assumes nothing.
 use mathlib.Core.Path.{ap, ◌∙◌}
 use native.Mathlib.Omega.{arith}
-use borrow.Author.Rules.{rules}
 use Rattle.blocks.specs.Chain as chain
 use Rattle.visits.proofs.Read.{carried-small, told_short, head_lies, told_is, length-low, length_high, length_is}
 use Rattle.visits.proofs.is_right_length.Goals as goal

@@ -1,7 +1,5 @@
 -- `visits::is_right_letter` meets its contract. Assumes nothing.
 use mathlib.Core.Path.{sym, ◌∙◌}
-use borrow.Author.Rules.{rules}
-use borrow.Author.Tests.{not-true, not-false}
 use Rattle.visits.proofs.Judge.{gap_judged, letter_bad, its_ends, left-least, its_count, letter_short, letter_head}
 use Rattle.visits.proofs.is_right_letter.Goals as goal
 

@@ -2,7 +2,6 @@
 use mathlib.Core.Path.{ap}
 use Prim.Native.Nat.{◌-◌}
 use native.Mathlib.Omega.{arith}
-use borrow.Author.Rules.{rules}
 use Rattle.letters.proofs.Steps.{first_block}
 use Rattle.visits.proofs.Walks.{told_bad, told_ended, linked, visited_as}
 use Rattle.visits.proofs.visit.Goals as goal

@@ -1,9 +1,9 @@
 -- `words::clear` meets its contract: after i turns the first i words are 0. Assumes nothing.
 use mathlib.Core.Path.{◌≡◌, ◌∙◌}
-use mathlib.Core.List.{◌++◌, append-nil}
-use Prim.Native.Nat.{◌≤◌, ◌-◌}
+use mathlib.Core.List.{append-nil}
+use Prim.Native.Nat.{◌≤◌}
 use native.Mathlib.Omega.{arith}
-use lib.ListN.{length, drop, replicate, length-set, drop_of_length-le}
+use lib.ListN.{length, length-set, drop_of_length-le}
 use borrow.Author.Rules.{rules}
 use borrow.Author.Fill.{fill_more}
 use Rattle.words.proofs.clear.Goals as goal

@@ -1,9 +1,7 @@
 -- `words::copy` meets its contract: after i turns the first i words are those of `from`. Assumes nothing.
-use mathlib.Core.Path.{◌≡◌, ◌∙◌}
-use mathlib.Core.List.{◌++◌}
-use Prim.Native.Nat.{◌≤◌, ◌-◌}
+use mathlib.Core.Path.{◌∙◌}
 use native.Mathlib.Omega.{arith}
-use lib.ListN.{length, take, drop, length-set}
+use lib.ListN.{length-set}
 use borrow.Author.Rules.{rules}
 use Rattle.words.proofs.Parts.{laid_more, laid_all}
 use Rattle.words.proofs.copy.Goals as goal

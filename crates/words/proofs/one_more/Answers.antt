@@ -1,5 +1,4 @@
 -- `words::one_more` meets its contract. Assumes nothing.
-use borrow.Author.Rules.{rules}
 use borrow.Author.Tests.{lt-ltb, le-ltb}
 use Rattle.words.specs.Words.{more}
 use Rattle.words.proofs.one_more.Goals as goal

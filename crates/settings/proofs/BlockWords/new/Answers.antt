@@ -1,6 +1,5 @@
 -- `settings::BlockWords::new` meets its contract. Assumes nothing.
 use mathlib.Core.Path.{sym, ◌∙◌}
-use borrow.Author.Rules.{rules}
 use Rattle.settings.proofs.BlockWords.new.Goals as goal
 
 pub returns-then-is_within : goal.returns-then-is_within

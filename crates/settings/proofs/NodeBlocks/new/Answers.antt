@@ -1,6 +1,5 @@
 -- `settings::NodeBlocks::new` meets its contract. Assumes nothing.
 use mathlib.Core.Path.{sym, ◌∙◌}
-use borrow.Author.Rules.{rules}
 use Rattle.settings.proofs.NodeBlocks.new.Goals as goal
 
 pub returns-then-is_within : goal.returns-then-is_within

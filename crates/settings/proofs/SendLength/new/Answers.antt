@@ -1,6 +1,5 @@
 -- `settings::SendLength::new` meets its contract. Assumes nothing.
 use mathlib.Core.Path.{sym, ◌∙◌}
-use borrow.Author.Rules.{rules}
 use Rattle.settings.proofs.SendLength.new.Goals as goal
 
 pub returns-then-is_within : goal.returns-then-is_within

@@ -8,7 +8,6 @@ use Rattle.settings.specs.declared.MadeSendLength.TheVariants as made-s
 use Rattle.settings.specs.declared.MadeAcknowledgeLength.TheVariants as made-a
 use Rattle.settings.specs.declared.MadeTaskLength.TheVariants as made-t
 use Rattle.settings.specs.Limits.{within, block_words, node_blocks, queue_length}
-use borrow.Author.Rules.{rules}
 use Rattle.settings.proofs.Settings.new.Goals as goal
 
 pub returns-in_default : goal.returns-in_default

@@ -1,6 +1,5 @@
 -- `settings::TaskLength::new` meets its contract. Assumes nothing.
 use mathlib.Core.Path.{sym, ◌∙◌}
-use borrow.Author.Rules.{rules}
 use Rattle.settings.proofs.TaskLength.new.Goals as goal
 
 pub returns-then-is_within : goal.returns-then-is_within
