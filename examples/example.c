@@ -1,5 +1,5 @@
 /* Sends a letter from task 27 on node 2 to task 52 on node 3, lets the postmen go round, and receives it. */
-/* On x86-64, after rt staticlib mail: cc -Iinclude -o example examples/example.c target/staticlib/libmail.a && ./example */
+/* On x86-64, after tools/archive: cc -Iinclude -o example examples/example.c target/staticlib/libmail.a && ./example */
 #include <stdio.h>
 
 #include "mail.h"
