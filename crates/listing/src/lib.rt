@@ -43,7 +43,7 @@ fn lay(out: &mut [u32], n: u32, x: Shown)
 fn list_letter(x: Shown, ranks: &mut [u32; 256], out: &mut [u32])
     requires destination_lt_task_ids { x.destination < task_ids }
     requires low { Low ranks.old 1 }
-    ensures { record { ranks = ranks.exit.now; out = out.new } ≡ placed (x ∷ []) (record { ranks = ranks.entry.now; out = out.old }) }
+    ensures { record { ranks = ranks.new; out = out.new } ≡ placed (x ∷ []) (record { ranks = ranks.old; out = out.old }) }
 {
     let t = x.destination as usize;
     let n = ranks[t];
@@ -65,7 +65,7 @@ fn list_task_queue(
     requires task_lt_task_ids { task < task_ids }
     requires i_lt_nodes { (i < nodes) × (q < task_queues) }
     requires low { Low ranks.old 255 }
-    ensures { record { ranks = ranks.exit.now; out = out.new } ≡ placed (from_task s memory.now task i (live (task_items s memory.now i q))) (record { ranks = ranks.entry.now; out = out.old }) }
+    ensures { record { ranks = ranks.new; out = out.new } ≡ placed (from_task s memory.now task i (live (task_items s memory.now i q))) (record { ranks = ranks.old; out = out.old }) }
 {
     let k = queues::task_kind(s);
     let at = layout::task_at(s, q as usize);
@@ -86,7 +86,7 @@ fn list_task(memory: &[u32], s: Settings, task: u32, ranks: &mut [u32; 256], out
     requires asked { Asked s memory.now }
     requires task_lt_task_ids { task < task_ids }
     requires low { Low ranks.old 255 }
-    ensures { record { ranks = ranks.exit.now; out = out.new } ≡ placed (kept_of s memory.now task) (record { ranks = ranks.entry.now; out = out.old }) }
+    ensures { record { ranks = ranks.new; out = out.new } ≡ placed (kept_of s memory.now task) (record { ranks = ranks.old; out = out.old }) }
 {
     let Seat::At(i, q) = tasks::seat_of(&memory[24..536], task) else {
         return;
@@ -98,7 +98,7 @@ fn list_task(memory: &[u32], s: Settings, task: u32, ranks: &mut [u32; 256], out
 fn list_tasks(memory: &[u32], s: Settings, ranks: &mut [u32; 256], out: &mut [u32])
     requires asked { Asked s memory.now }
     requires low { Low ranks.old (task_ids * 255) }
-    ensures { record { ranks = ranks.exit.now; out = out.new } ≡ placed (kept_below s memory.now task_ids) (record { ranks = ranks.entry.now; out = out.old }) }
+    ensures { record { ranks = ranks.new; out = out.new } ≡ placed (kept_below s memory.now task_ids) (record { ranks = ranks.old; out = out.old }) }
 {
     let mut task = 0;
     while task < 256 {
@@ -119,7 +119,7 @@ fn list_send_queue(
     requires asked { Asked s memory.now }
     requires i_lt_nodes { (i < nodes) × (j < nodes) }
     requires low { Low ranks.old 255 }
-    ensures { record { ranks = ranks.exit.now; out = out.new } ≡ placed (sent_from s memory.now j (waiting s memory.now i j)) (record { ranks = ranks.entry.now; out = out.old }) }
+    ensures { record { ranks = ranks.new; out = out.new } ≡ placed (sent_from s memory.now j (waiting s memory.now i j)) (record { ranks = ranks.old; out = out.old }) }
 {
     let k = queues::send_kind(s);
     let at = layout::send_at(s, i as usize);
@@ -139,7 +139,7 @@ fn list_send_queue(
 fn list_nodes(memory: &[u32], s: Settings, ranks: &mut [u32; 256], out: &mut [u32])
     requires asked { Asked s memory.now }
     requires low { Low ranks.old (nodes * nodes * 255) }
-    ensures { record { ranks = ranks.exit.now; out = out.new } ≡ placed (sent_below s memory.now (nodes * nodes)) (record { ranks = ranks.entry.now; out = out.old }) }
+    ensures { record { ranks = ranks.new; out = out.new } ≡ placed (sent_below s memory.now (nodes * nodes)) (record { ranks = ranks.old; out = out.old }) }
 {
     let mut c = 0;
     while c < 36 {
@@ -152,7 +152,7 @@ fn list_nodes(memory: &[u32], s: Settings, ranks: &mut [u32; 256], out: &mut [u3
 fn list_letters(memory: &[u32], s: Settings, ranks: &mut [u32; 256], out: &mut [u32])
     requires asked { Asked s memory.now }
     requires low { Low ranks.old ((task_ids + nodes * nodes) * 255) }
-    ensures { record { ranks = ranks.exit.now; out = out.new } ≡ placed (every_letter s memory.now) (record { ranks = ranks.entry.now; out = out.old }) }
+    ensures { record { ranks = ranks.new; out = out.new } ≡ placed (every_letter s memory.now) (record { ranks = ranks.old; out = out.old }) }
 {
     list_tasks(memory, s, ranks, out);
     list_nodes(memory, s, ranks, out);
