@@ -1,6 +1,6 @@
 -- The moves of queues, each by `queue-put`: append, an append that finds no room, drop; of a task queue also closing gaps and taking a letter out. Assumes nothing.
 --     append_keeps, full_keeps, drop_keeps     any queue, of whatever kind and on whatever node its row stands
---     task_append, task_append-gap, task-append-full, task_take     a task queue, with its flag
+--     task_append, task_append-gap, task_full, task_take     a task queue, with its flag
 use mathlib.Core.Path.{◌≡◌, refl, ap, ◌∙◌}
 use mathlib.Core.List.{List, [], ◌∷◌, ◌++◌}
 use Prim.Native.Nat.{ℕ, ◌+◌, ◌≤◌, ◌<◌}

@@ -1,7 +1,7 @@
-// A script of words from a reader, and the lines that answer it.
+// A script of words from a reader, and the lines that answer it. An error is that of the read or the write that failed; what was read before it is gone.
 #![tactic(auto)]
 
-ghost use Rattle.std.specs.Prelude.{◌≡◌, ◌≤◌, length, IfOk};
+ghost use Rattle.std.specs.Prelude.{◌≡◌, ◌≤◌, length, IfOk, OnErr};
 ghost use Rattle.script.specs.Words.{rising, sum_of};
 
 use answers::Answer;
@@ -30,7 +30,8 @@ fn wide(x: u8) -> u32
 
 // Fills the bytes as far as the reader goes, and tells how far that is.
 pub fn read_full<R: io::Read>(from: &mut R, bytes: &mut [u8]) -> io::Result<usize>
-    ensures { IfOk result (λ n. n ≤ length bytes.new) }
+    ensures ok { IfOk result (λ n. n ≤ length bytes.new) }
+    ensures err { OnErr result (length bytes.new ≡ length bytes.old) }
 {
     let mut at = 0;
     while at < bytes.len() {
@@ -78,7 +79,9 @@ pub fn read_arguments<R: io::Read>(from: &mut R, n: usize) -> io::Result<Argumen
 }
 
 // Reads words until the slice is full, and says whether they were all there.
-pub fn read_all<R: io::Read>(from: &mut R, words: &mut [u32]) -> io::Result<bool> {
+pub fn read_all<R: io::Read>(from: &mut R, words: &mut [u32]) -> io::Result<bool>
+    ensures { OnErr result (length words.new ≡ length words.old) }
+{
     let mut i = 0;
     while i < words.len() {
         let Read::Word(w) = read_word(from)? else {

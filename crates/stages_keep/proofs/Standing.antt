@@ -1,6 +1,6 @@
 -- A memory while node j's postman is at work: what stands but for his own position, and that position stored. Assumes nothing.
 --     stand_node, stand_table, stand_settings, stand_length     his position stored changes nothing else
---     begins-midway     a memory that is sound with him at a position; ends-midway     and back, with another position
+--     midway_of, here_of     a memory that is sound with him at a position; stands_midway     and back, with another position
 --     goes_midway     nodes anew, the other postmen's hands and the queues to them as they were
 use mathlib.Core.Path.{◌≡◌, sym, ap, ◌∙◌, subst}
 use mathlib.Core.Bool.{true}

@@ -1,4 +1,4 @@
--- What a turn of each loop passes, and what the tests of `is_wanted` and `take` tell. Assumes nothing.
+-- What a turn of each loop passes, and what the tests of `is_from` and `look` tell. Assumes nothing.
 use mathlib.Core.Path.{◌≡◌, refl, ap, ◌∙◌}
 use mathlib.Core.Bool.{Bool, true, false}
 use mathlib.Core.List.{List}

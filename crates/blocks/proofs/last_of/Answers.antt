@@ -7,9 +7,8 @@ pub overflow_sub-before : goal.overflow_sub-before
 overflow_sub-before c = omega (arith, first_word c.args.s)
 
 pub last_on-requires : goal.last_on-requires
-last_on-requires c = let x = c in (c.args.s, follows c.args.s _ _ _ _ c.block_at-before.ensures.is c.requires.walks c.requires.le_owed)
+last_on-requires c = (c.args.s, follows c.args.s _ _ _ _ c.block_at-before.ensures.is c.requires.walks c.requires.le_owed)
 
 pub returns : goal.returns
 returns c =
-    let x = c in
     c.last_on.ensures c.args.s (follows c.args.s _ _ _ _ c.block_at-before.ensures.is c.requires.walks c.requires.le_owed)

@@ -7,7 +7,7 @@ use Rattle.queues.specs.Queue.{Queue, items}
 use Rattle.carrying.proofs.count_in.Goals as goal
 
 pub items_of-requires : goal.items_of-requires
-items_of-requires c = let x = c in lent_as c.args.s c.args.memory.now c.args.i c.node_at-a.ensures.is c.node_size.ensures.is (λ (l : List ℕ). Queue c.args.k l c.args.q) c.requires.queue
+items_of-requires c = lent_as c.args.s c.args.memory.now c.args.i c.node_at-a.ensures.is c.node_size.ensures.is (λ (l : List ℕ). Queue c.args.k l c.args.q) c.requires.queue
 
 pub returns : goal.returns
-returns c = let x = c in c.items_of.ensures ∙ ap (λ (l : List ℕ). items c.args.k l c.args.q) (lent-part c.args.s c.args.memory.now c.args.i c.node_at-a.ensures.is c.node_size.ensures.is)
+returns c = c.items_of.ensures ∙ ap (λ (l : List ℕ). items c.args.k l c.args.q) (lent-part c.args.s c.args.memory.now c.args.i c.node_at-a.ensures.is c.node_size.ensures.is)

@@ -6,14 +6,14 @@ use Rattle.carrying.proofs.Ways.{stage-stop, stage_go}
 use Rattle.carrying.proofs.deliver.Goals as goal
 
 pub stop-requires : goal.stop-requires
-stop-requires c = let x = c in deliver_there c.args.s c.args.memory.now c.args.j c.args.i c.args.c c.args.r c.requires
+stop-requires c = deliver_there c.args.s c.args.memory.now c.args.j c.args.i c.args.c c.args.r c.requires
 
 pub returns-in_default : goal.returns-in_default
 unfolding delivered
 returns-in_default c = stage-stop _ _ c.put_task-how.ensures c.in_default.is c.stop.ensures
 
 pub hand_on-requires : goal.hand_on-requires
-hand_on-requires c = let x = c in deliver_hand c.args.s c.args.memory.now c.args.j c.args.i c.args.c c.args.r c.requires c.put_task-how.ensures c.in-Done.is
+hand_on-requires c = deliver_hand c.args.s c.args.memory.now c.args.j c.args.i c.args.c c.args.r c.requires c.put_task-how.ensures c.in-Done.is
 
 pub returns : goal.returns
 unfolding delivered

@@ -6,9 +6,8 @@ use Rattle.copying.proofs.copy_block.Goals as goal
 
 pub move_words-requires : goal.move_words-requires
 move_words-requires c =
-    let x = c in
     block_moves c.args.s c.args.memory.now c.args.i c.args.x c.args.j c.args.y c.requires c.args.left _ _ _ c.fewer-n.ensures (ap₂ (λ (a k : ℕ). a + k) c.node_at.ensures.is c.block_at.ensures.is) (ap₂ (λ (a k : ℕ). a + k) c.node_at-2.ensures.is c.block_at-2.ensures.is)
 
 pub returns : goal.returns
 returns c =
-    let x = c in record { answer = c.fewer-n.ensures; stored = block_moved c.args.s c.args.memory.now c.args.i c.args.x c.args.j c.args.y c.requires c.args.left _ _ _ c.fewer-n.ensures (ap₂ (λ (a k : ℕ). a + k) c.node_at.ensures.is c.block_at.ensures.is) (ap₂ (λ (a k : ℕ). a + k) c.node_at-2.ensures.is c.block_at-2.ensures.is) _ c.move_words.ensures }
+    record { answer = c.fewer-n.ensures; stored = block_moved c.args.s c.args.memory.now c.args.i c.args.x c.args.j c.args.y c.requires c.args.left _ _ _ c.fewer-n.ensures (ap₂ (λ (a k : ℕ). a + k) c.node_at.ensures.is c.block_at.ensures.is) (ap₂ (λ (a k : ℕ). a + k) c.node_at-2.ensures.is c.block_at-2.ensures.is) _ c.move_words.ensures }

@@ -10,7 +10,6 @@ loop-k-init c = (omega arith, refl, refl)
 
 pub loop-k-preserved : goal.loop-k-preserved
 loop-k-preserved c =
-    let x = c in
     let l = c.loop-k in (
       omega arith,
       length-set l.memory _ _ ∙ l.invariant.1,
@@ -22,6 +21,5 @@ shape_of-memory c = c.loop-k.invariant.1
 
 pub returns : goal.returns
 returns c =
-    let x = c in
     let l = c.loop-k in
     moved_all c.args.memory.now c.args.from c.args.to c.args.n c.requires l.k l.memory (omega arith) l.invariant.2

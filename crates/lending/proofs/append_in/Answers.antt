@@ -8,7 +8,7 @@ use Rattle.lending.proofs.Lent.{lent-part, lent_as, lent_back}
 use Rattle.lending.proofs.append_in.Goals as goal
 
 pub append-requires : goal.append-requires
-append-requires c = let x = c in lent_as c.args.s c.args.memory.now c.args.i c.node_at-a.ensures.is c.node_size-size.ensures.is (λ (l : List ℕ). Queue c.args.k l c.args.q) c.requires.queue
+append-requires c = lent_as c.args.s c.args.memory.now c.args.i c.node_at-a.ensures.is c.node_size-size.ensures.is (λ (l : List ℕ). Queue c.args.k l c.args.q) c.requires.queue
 
 pub returns : goal.returns
-returns c = let x = c in (lent_back c.args.s c.args.memory.now c.args.i c.node_at-a.ensures.is c.node_size-size.ensures.is (λ (l : List ℕ). appended c.args.k l c.args.q c.args.item) c.append.ensures.0, c.append.ensures.1 ∙ ap (λ (l : List ℕ). append_answer c.args.k l c.args.q) (lent-part c.args.s c.args.memory.now c.args.i c.node_at-a.ensures.is c.node_size-size.ensures.is))
+returns c = (lent_back c.args.s c.args.memory.now c.args.i c.node_at-a.ensures.is c.node_size-size.ensures.is (λ (l : List ℕ). appended c.args.k l c.args.q c.args.item) c.append.ensures.0, c.append.ensures.1 ∙ ap (λ (l : List ℕ). append_answer c.args.k l c.args.q) (lent-part c.args.s c.args.memory.now c.args.i c.node_at-a.ensures.is c.node_size-size.ensures.is))

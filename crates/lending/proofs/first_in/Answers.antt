@@ -8,7 +8,7 @@ use Rattle.lending.proofs.Lent.{lent-part, lent_as}
 use Rattle.lending.proofs.first_in.Goals as goal
 
 pub item-requires : goal.item-requires
-item-requires c = let x = c in record { queue = lent_as c.args.s c.args.memory.now c.args.i c.node_at-a.ensures.is c.node_size.ensures.is (λ (l : List ℕ). Queue c.args.k l c.args.q) c.requires.queue; i_lt_slots = omega (arith, c.requires.queue.placed.some) }
+item-requires c = record { queue = lent_as c.args.s c.args.memory.now c.args.i c.node_at-a.ensures.is c.node_size.ensures.is (λ (l : List ℕ). Queue c.args.k l c.args.q) c.requires.queue; i_lt_slots = omega (arith, c.requires.queue.placed.some) }
 
 pub returns : goal.returns
-returns c = let x = c in c.item.ensures ∙ ap (λ (l : List ℕ). item_at c.args.k l c.args.q 0) (lent-part c.args.s c.args.memory.now c.args.i c.node_at-a.ensures.is c.node_size.ensures.is)
+returns c = c.item.ensures ∙ ap (λ (l : List ℕ). item_at c.args.k l c.args.q 0) (lent-part c.args.s c.args.memory.now c.args.i c.node_at-a.ensures.is c.node_size.ensures.is)

@@ -4,4 +4,4 @@ use Rattle.lending.proofs.Lent.{begins-told}
 use Rattle.lending.proofs.length_of.Goals as goal
 
 pub returns : goal.returns
-returns c = let x = c in c.word_in.ensures ∙ begins-told c.args.s c.args.memory.now c.args.i c.args.b c.requires
+returns c = c.word_in.ensures ∙ begins-told c.args.s c.args.memory.now c.args.i c.args.b c.requires

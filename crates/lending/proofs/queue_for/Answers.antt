@@ -6,13 +6,13 @@ use Rattle.lending.proofs.Lent.{lent_front}
 use Rattle.lending.proofs.queue_for.Goals as goal
 
 pub slice_bounds-seat_of-end : goal.slice_bounds-seat_of-end
-slice_bounds-seat_of-end c = let x = c in omega (arith, lent_front c.args.s c.args.memory.now c.args.j c.requires.begins.lent)
+slice_bounds-seat_of-end c = omega (arith, lent_front c.args.s c.args.memory.now c.args.j c.requires.begins.lent)
 
 pub returns-in_default : goal.returns-in_default
-returns-in_default c = let x = c in absurd (never_unbound c.args.s c.args.memory.now c.args.j c.args.c c.requires c.word_in-task.ensures (sym c.seat_of.ensures ∙ c.in_default.is))
+returns-in_default c = absurd (never_unbound c.args.s c.args.memory.now c.args.j c.args.c c.requires c.word_in-task.ensures (sym c.seat_of.ensures ∙ c.in_default.is))
 
 pub task_at-requires : goal.task_at-requires
-task_at-requires c = let x = c in record { in_range = c.requires.begins.lent.sized.range; q_bound = seat-small c.args.s c.args.memory.now c.args.j c.args.c c.requires c.word_in-task.ensures _ _ (sym c.seat_of.ensures ∙ c.in-At.is) }
+task_at-requires c = record { in_range = c.requires.begins.lent.sized.range; q_bound = seat-small c.args.s c.args.memory.now c.args.j c.args.c c.requires c.word_in-task.ensures _ _ (sym c.seat_of.ensures ∙ c.in-At.is) }
 
 pub returns : goal.returns
-returns c = let x = c in seat-queue c.args.s c.args.memory.now c.args.j c.args.c c.requires c.word_in-task.ensures _ _ (sym c.seat_of.ensures ∙ c.in-At.is) c.task_at.ensures.is
+returns c = seat-queue c.args.s c.args.memory.now c.args.j c.args.c c.requires c.word_in-task.ensures _ _ (sym c.seat_of.ensures ∙ c.in-At.is) c.task_at.ensures.is

@@ -8,7 +8,7 @@ use Rattle.lending.proofs.Lent.{lent-part, lent_as, lent_back}
 use Rattle.lending.proofs.take_space.Goals as goal
 
 pub take-requires : goal.take-requires
-take-requires c = let x = c in lent_as c.args.s c.args.memory.now c.args.j c.node_at-a.ensures.is c.node_size-size.ensures.is (λ (l : List ℕ). Takes c.args.s l c.args.n) c.requires.takes
+take-requires c = lent_as c.args.s c.args.memory.now c.args.j c.node_at-a.ensures.is c.node_size-size.ensures.is (λ (l : List ℕ). Takes c.args.s l c.args.n) c.requires.takes
 
 pub returns : goal.returns
-returns c = let x = c in (lent_back c.args.s c.args.memory.now c.args.j c.node_at-a.ensures.is c.node_size-size.ensures.is (λ (l : List ℕ). taken c.args.s l c.args.n) c.take.ensures.stored, c.take.ensures.answer ∙ ap (λ (l : List ℕ). taken_answer c.args.s l c.args.n) (lent-part c.args.s c.args.memory.now c.args.j c.node_at-a.ensures.is c.node_size-size.ensures.is))
+returns c = (lent_back c.args.s c.args.memory.now c.args.j c.node_at-a.ensures.is c.node_size-size.ensures.is (λ (l : List ℕ). taken c.args.s l c.args.n) c.take.ensures.stored, c.take.ensures.answer ∙ ap (λ (l : List ℕ). taken_answer c.args.s l c.args.n) (lent-part c.args.s c.args.memory.now c.args.j c.node_at-a.ensures.is c.node_size-size.ensures.is))

@@ -7,6 +7,5 @@ use Rattle.letters.proofs.read_block.Goals as goal
 
 pub returns : goal.returns
 returns c =
-    let x = c in
     let n = c.fewer-n.ensures in
     let a = ap (λ (k : ℕ). k + c.args.at) c.block_at.ensures.is in record { answer = piece-long c.args.s c.args.node.now c.requires.block.stretch c.args.b c.requires.block.low c.requires.block.high c.args.at c.requires.inside (length c.args.out.now) _ _ n a; got = piece-got c.args.s c.args.node.now c.requires.block.stretch c.args.b c.requires.block.low c.requires.block.high c.args.at c.requires.inside (length c.args.out.now) _ _ n a c.args.out.now _ c.copy.ensures }

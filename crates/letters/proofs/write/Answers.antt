@@ -5,25 +5,21 @@ use Rattle.letters.proofs.write.Goals as goal
 
 pub loop-owed-init : goal.loop-owed-init
 loop-owed-init c =
-    let x = c in
     let z = made_long c.args.h c.args.body.now in
     write_starts c.args.s c.args.node.now c.args.b _ _ (rw z c.requires) (rw z c.needs_of-owed.ensures)
 
 pub link_of-next-requires : goal.link_of-next-requires
 link_of-next-requires c =
-    let x = c in
     let l = c.loop-owed in
     (write_inside c.args.s c.args.node.now c.args.b _ l.node l.owed l.block l.k l.invariant (omega arith)).0
 
 pub write_block-requires : goal.write_block-requires
 write_block-requires c =
-    let x = c in
     let l = c.loop-owed in
     let i = write_inside c.args.s c.args.node.now c.args.b _ l.node l.owed l.block l.k l.invariant (omega arith) in record { block = i.0; has_word = record { inside = rw (made_long c.args.h c.args.body.now) at i.1; most = c.requires.most } }
 
 pub overflow_add-k : goal.overflow_add-k
 overflow_add-k c =
-    let x = c in
     let l = c.loop-owed in
     omega (arith, c.requires.most, made_long c.args.h c.args.body.now, c.requires.walks.stretch.range.b.high, (write_inside c.args.s c.args.node.now c.args.b _ l.node l.owed l.block l.k l.invariant (omega arith)).1)
 
@@ -35,7 +31,6 @@ loop-owed-smaller c = omega arith
 
 pub loop-owed-preserved : goal.loop-owed-preserved
 loop-owed-preserved c =
-    let x = c in
     let l = c.loop-owed in
     write_goes c.args.s c.args.node.now c.args.b _ l.node l.owed l.block l.k l.invariant (omega arith) _ _ c.link_of-next.ensures c.write_block.ensures
 
@@ -44,6 +39,5 @@ shape_of-node c = c.loop-owed.invariant.long
 
 pub returns : goal.returns
 returns c =
-    let x = c in
     let l = c.loop-owed in
     write_ends c.args.s c.args.node.now c.args.b _ l.node l.owed l.block l.k l.invariant (omega arith)

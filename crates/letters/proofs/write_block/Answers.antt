@@ -10,11 +10,10 @@ pub loop-i-init : goal.loop-i-init
 loop-i-init c = (omega arith, refl, refl)
 
 pub letter_word-requires : goal.letter_word-requires
-letter_word-requires c = let x = c in record { inside = omega (arith, c.fewer-n.ensures); most = c.requires.has_word.most }
+letter_word-requires c = record { inside = omega (arith, c.fewer-n.ensures); most = c.requires.has_word.most }
 
 pub loop-i-preserved : goal.loop-i-preserved
 loop-i-preserved c =
-    let x = c in
     let l = c.loop-i in (
       omega arith,
       length-set l.node _ _ ∙ l.invariant.1,
@@ -26,6 +25,5 @@ shape_of-node c = c.loop-i.invariant.1
 
 pub returns : goal.returns
 returns c =
-    let x = c in
     let l = c.loop-i in
     block_all c.args.h c.args.body.now c.args.k _ (c.args.s.b - 1) c.fewer-n.ensures c.args.node.now l.node _ _ l.i c.block_at-a.ensures.is (omega arith) l.invariant.2

@@ -10,7 +10,6 @@ loop-t-init c = adding_none (numbers c.args.ranks.now) c.args.ranks.now c.requir
 
 pub overflow_add-n : goal.overflow_add-n
 overflow_add-n c =
-    let x = c in
     let l = c.loop-t in
     omega (arith, l.invariant.left l.t (omega arith), c.requires.ranks_bound, adding_few (numbers c.args.ranks.now) c.args.ranks.now l.ranks l.n l.t l.invariant (omega arith))
 

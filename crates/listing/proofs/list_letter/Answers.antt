@@ -6,7 +6,7 @@ use Rattle.listing.proofs.Placing.{rows}
 use Rattle.listing.proofs.list_letter.Goals as goal
 
 pub overflow_add-ranks : goal.overflow_add-ranks
-overflow_add-ranks c = let x = c in omega (arith, c.requires.low.few c.args.x.destination)
+overflow_add-ranks c = omega (arith, c.requires.low.few c.args.x.destination)
 
 pub returns : goal.returns
 unfolding placed

@@ -12,14 +12,14 @@ use Rattle.listing.proofs.Placing.{rows, so_long}
 use Rattle.listing.proofs.list_send_queue.Goals as goal
 
 pub send_at-at-requires : goal.send_at-at-requires
-send_at-at-requires c = let x = c in record { in_range = (asked-sized _ _ c.requires.asked).range; k_bound = c.requires.i_lt_nodes.0 }
+send_at-at-requires c = record { in_range = (asked-sized _ _ c.requires.asked).range; k_bound = c.requires.i_lt_nodes.0 }
 
 pub count_in-count-requires : goal.count_in-count-requires
 count_in-count-requires c =
-    let x = c in record { sized = asked-sized _ _ c.requires.asked; i_lt_nodes = c.requires.i_lt_nodes.1; queue = send-queue c.args.s c.args.memory.now c.requires.asked c.args.j c.requires.i_lt_nodes.1 c.args.i c.requires.i_lt_nodes.0 c.send_kind-k.ensures c.send_at-at.ensures.is }
+    record { sized = asked-sized _ _ c.requires.asked; i_lt_nodes = c.requires.i_lt_nodes.1; queue = send-queue c.args.s c.args.memory.now c.requires.asked c.args.j c.requires.i_lt_nodes.1 c.args.i c.requires.i_lt_nodes.0 c.send_kind-k.ensures c.send_at-at.ensures.is }
 
 pub left_out-first-requires : goal.left_out-first-requires
-left_out-first-requires c = let x = c in record { nodes_at_in_bounds = asked-long _ _ c.requires.asked; i_lt_nodes = c.requires.i_lt_nodes.0 }
+left_out-first-requires c = record { nodes_at_in_bounds = asked-long _ _ c.requires.asked; i_lt_nodes = c.requires.i_lt_nodes.0 }
 
 pub loop-c-init : goal.loop-c-init
 loop-c-init c =
@@ -29,7 +29,7 @@ loop-c-init c =
 pub item_in-b-requires : goal.item_in-b-requires
 item_in-b-requires c =
     let q = read_send c.args.s c.args.memory.now c.requires.asked c.args.j c.requires.i_lt_nodes.1 c.args.i c.requires.i_lt_nodes.0 c.send_kind-k.ensures c.send_at-at.ensures.is _ c.count_in-count.ensures in
-    let x = c in record { sized = asked-sized _ _ c.requires.asked; i_lt_nodes = c.requires.i_lt_nodes.1; queue = q.queue; c_lt_slots = (read_place q c.loop-c.c c.loop-c-test.true).0 }
+    record { sized = asked-sized _ _ c.requires.asked; i_lt_nodes = c.requires.i_lt_nodes.1; queue = q.queue; c_lt_slots = (read_place q c.loop-c.c c.loop-c-test.true).0 }
 
 pub word_in-task-requires : goal.word_in-task-requires
 word_in-task-requires c = record { begins = sent-begins c.args.s c.args.memory.now c.requires.asked c.args.j c.requires.i_lt_nodes.1 c.args.i c.requires.i_lt_nodes.0 (read_send c.args.s c.args.memory.now c.requires.asked c.args.j c.requires.i_lt_nodes.1 c.args.i c.requires.i_lt_nodes.0 c.send_kind-k.ensures c.send_at-at.ensures.is _ c.count_in-count.ensures) c.loop-c.c _ c.loop-c-test.true c.item_in-b.ensures; k_lt_header_words = omega arith }
@@ -39,7 +39,6 @@ shown_at-x-requires c = sent-begins c.args.s c.args.memory.now c.requires.asked 
 
 pub list_letter-requires : goal.list_letter-requires
 list_letter-requires c =
-    let x = c in
     let l = c.loop-c in
     let p = (read_place (read_send c.args.s c.args.memory.now c.requires.asked c.args.j c.requires.i_lt_nodes.1 c.args.i c.requires.i_lt_nodes.0 c.send_kind-k.ensures c.send_at-at.ensures.is _ c.count_in-count.ensures) l.c c.loop-c-test.true).1 in record { destination_lt_task_ids = shown_for c.args.s c.args.memory.now _ _ c.args.j _ _ c.shown_at-x.ensures (sent-named c.args.s c.args.memory.now c.requires.asked c.args.j c.requires.i_lt_nodes.1 c.args.i c.requires.i_lt_nodes.0 (read_send c.args.s c.args.memory.now c.requires.asked c.args.j c.requires.i_lt_nodes.1 c.args.i c.requires.i_lt_nodes.0 c.send_kind-k.ensures c.send_at-at.ensures.is _ c.count_in-count.ensures) c.loop-c.c _ c.loop-c-test.true c.item_in-b.ensures _ c.word_in-task.ensures); low = so_sent c.args.s c.args.memory.now (send_kind c.args.s) (node c.args.s c.args.memory.now c.args.j) (send_at c.args.s c.args.i) _ c.args.ranks.now c.args.out.now l.ranks l.out (omega arith) c.requires.low c.args.j _ l.invariant.2 }
 

@@ -17,7 +17,7 @@ returns-in_default c =
 
 pub list_task_queue-requires : goal.list_task_queue-requires
 list_task_queue-requires c =
-    let x = c in record { asked = c.requires.asked; task_lt_task_ids = c.requires.task_lt_task_ids; i_lt_nodes = told-seat _ (asked-table _ _ c.requires.asked) c.args.task _ _ (sym c.seat_of.ensures ∙ c.in-At.is); low = c.requires.low }
+    record { asked = c.requires.asked; task_lt_task_ids = c.requires.task_lt_task_ids; i_lt_nodes = told-seat _ (asked-table _ _ c.requires.asked) c.args.task _ _ (sym c.seat_of.ensures ∙ c.in-At.is); low = c.requires.low }
 
 pub returns : goal.returns
 returns c =

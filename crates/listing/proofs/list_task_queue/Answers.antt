@@ -11,11 +11,11 @@ use Rattle.listing.proofs.list_task_queue.Goals.{then-b-ne0, else-b-ne0}
 use Rattle.listing.proofs.list_task_queue.Goals as goal
 
 pub task_at-at-requires : goal.task_at-at-requires
-task_at-at-requires c = let x = c in record { in_range = (asked-sized _ _ c.requires.asked).range; q_bound = c.requires.i_lt_nodes.1 }
+task_at-at-requires c = record { in_range = (asked-sized _ _ c.requires.asked).range; q_bound = c.requires.i_lt_nodes.1 }
 
 pub count_in-count-requires : goal.count_in-count-requires
 count_in-count-requires c =
-    let x = c in record { sized = asked-sized _ _ c.requires.asked; i_lt_nodes = c.requires.i_lt_nodes.0; queue = task_queue c.args.s c.args.memory.now c.requires.asked c.args.i c.requires.i_lt_nodes.0 c.args.q c.requires.i_lt_nodes.1 c.task_kind-k.ensures c.task_at-at.ensures.is }
+    record { sized = asked-sized _ _ c.requires.asked; i_lt_nodes = c.requires.i_lt_nodes.0; queue = task_queue c.args.s c.args.memory.now c.requires.asked c.args.i c.requires.i_lt_nodes.0 c.args.q c.requires.i_lt_nodes.1 c.task_kind-k.ensures c.task_at-at.ensures.is }
 
 pub loop-c-init : goal.loop-c-init
 loop-c-init c =
@@ -25,16 +25,14 @@ loop-c-init c =
 pub item_in-b-requires : goal.item_in-b-requires
 item_in-b-requires c =
     let q = read_task c.args.s c.args.memory.now c.requires.asked c.args.i c.requires.i_lt_nodes.0 c.args.q c.requires.i_lt_nodes.1 c.task_kind-k.ensures c.task_at-at.ensures.is _ c.count_in-count.ensures in
-    let x = c in record { sized = asked-sized _ _ c.requires.asked; i_lt_nodes = c.requires.i_lt_nodes.0; queue = q.queue; c_lt_slots = (read_place q c.loop-c.c c.loop-c-test.true).0 }
+    record { sized = asked-sized _ _ c.requires.asked; i_lt_nodes = c.requires.i_lt_nodes.0; queue = q.queue; c_lt_slots = (read_place q c.loop-c.c c.loop-c-test.true).0 }
 
 pub shown_at-x-requires : goal.shown_at-x-requires
 shown_at-x-requires c =
-    let x = c in
     kept-begins c.args.s c.args.memory.now c.requires.asked c.args.i c.requires.i_lt_nodes.0 c.args.q c.requires.i_lt_nodes.1 (read_task c.args.s c.args.memory.now c.requires.asked c.args.i c.requires.i_lt_nodes.0 c.args.q c.requires.i_lt_nodes.1 c.task_kind-k.ensures c.task_at-at.ensures.is _ c.count_in-count.ensures) c.loop-c.c _ c.loop-c-test.true c.item_in-b.ensures c.if-b-ne0.true
 
 pub list_letter-requires : goal.list_letter-requires
 list_letter-requires c =
-    let x = c in
     let l = c.loop-c in record { destination_lt_task_ids = shown_for c.args.s c.args.memory.now c.args.task _ c.args.i _ _ c.shown_at-x.ensures c.requires.task_lt_task_ids; low = so_kept c.args.s c.args.memory.now (task_kind c.args.s) (node c.args.s c.args.memory.now c.args.i) (task_at c.args.s c.args.q) l.c c.args.ranks.now c.args.out.now l.ranks l.out (read_place (read_task c.args.s c.args.memory.now c.requires.asked c.args.i c.requires.i_lt_nodes.0 c.args.q c.requires.i_lt_nodes.1 c.task_kind-k.ensures c.task_at-at.ensures.is _ c.count_in-count.ensures) l.c c.loop-c-test.true).1 c.requires.low c.args.task c.args.i l.invariant.1 }
 
 pub overflow_add-c : goal.overflow_add-c

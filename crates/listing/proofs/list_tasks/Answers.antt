@@ -13,7 +13,7 @@ loop-task-init c = let x = c.args in (omega arith, tasks_start x.s x.memory.now 
 pub list_task-requires : goal.list_task-requires
 list_task-requires c =
     let l = c.loop-task in
-    let x = c in record { asked = c.requires.asked; task_lt_task_ids = omega arith; low = so_low (kept_below c.args.s c.args.memory.now l.task) c.args.ranks.now c.args.out.now l.ranks l.out l.invariant.1 _ _ c.requires.low (omega (arith, few_below c.args.s c.args.memory.now c.requires.asked l.task)) }
+    record { asked = c.requires.asked; task_lt_task_ids = omega arith; low = so_low (kept_below c.args.s c.args.memory.now l.task) c.args.ranks.now c.args.out.now l.ranks l.out l.invariant.1 _ _ c.requires.low (omega (arith, few_below c.args.s c.args.memory.now c.requires.asked l.task)) }
 
 pub loop-task-preserved : goal.loop-task-preserved
 loop-task-preserved c =

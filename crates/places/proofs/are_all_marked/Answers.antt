@@ -15,11 +15,11 @@ loop-b-init c = (omega arith, every_none _)
 
 pub returns-then-marks-b-ne1 : goal.returns-then-marks-b-ne1
 unfolding all_marked
-returns-then-marks-b-ne1 c = let y = c in let x = c.args in turn_no (λ b. eqb (get_or x.marks.now (suc b) 0) 1) x.m c.loop-b.b (omega arith) _ refl (ne_eqb _ 1 (rw (add-one c.loop-b.b) at c.if-marks-b-ne1.true))
+returns-then-marks-b-ne1 c = let x = c.args in turn_no (λ b. eqb (get_or x.marks.now (suc b) 0) 1) x.m c.loop-b.b (omega arith) _ refl (ne_eqb _ 1 (rw (add-one c.loop-b.b) at c.if-marks-b-ne1.true))
 
 pub loop-b-preserved : goal.loop-b-preserved
-loop-b-preserved c = let y = c in let x = c.args in (omega arith, turn_more (λ b. eqb (get_or x.marks.now (suc b) 0) 1) x.m c.loop-b.b c.loop-b.invariant.1 _ refl (eq-eqb _ 1 (rw (add-one c.loop-b.b) at c.if-marks-b-ne1.false)))
+loop-b-preserved c = let x = c.args in (omega arith, turn_more (λ b. eqb (get_or x.marks.now (suc b) 0) 1) x.m c.loop-b.b c.loop-b.invariant.1 _ refl (eq-eqb _ 1 (rw (add-one c.loop-b.b) at c.if-marks-b-ne1.false)))
 
 pub returns : goal.returns
 unfolding all_marked
-returns c = let y = c in let x = c.args in turn_all (λ b. eqb (get_or x.marks.now (suc b) 0) 1) x.m c.loop-b.b (omega arith) c.loop-b.invariant.1
+returns c = let x = c.args in turn_all (λ b. eqb (get_or x.marks.now (suc b) 0) 1) x.m c.loop-b.b (omega arith) c.loop-b.invariant.1

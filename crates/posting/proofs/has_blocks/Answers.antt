@@ -9,7 +9,7 @@ pub bounds-node-0 : goal.bounds-node-0
 bounds-node-0 c = let p = c.requires in omega (arith, head_fits c.args.s)
 
 pub reach-requires : goal.reach-requires
-reach-requires c = let x = c in record { stretch = c.requires.stretch; some = c.requires.some; within = front_within c.args.s c.args.node.now c.args.n c.requires }
+reach-requires c = record { stretch = c.requires.stretch; some = c.requires.some; within = front_within c.args.s c.args.node.now c.args.n c.requires }
 
 pub returns : goal.returns
-returns c = let x = c in blocks-there c.args.s c.args.node.now c.args.n c.requires _ c.reach.ensures
+returns c = blocks-there c.args.s c.args.node.now c.args.n c.requires _ c.reach.ensures

@@ -8,19 +8,19 @@ use mathlib.Core.Path.{sym, ◌∙◌}
 use Rattle.posting.proofs.post.Goals as goal
 
 pub has_blocks-requires : goal.has_blocks-requires
-has_blocks-requires c = let x = c in rw c.needs_of-n.ensures (posts-takes c.args.s c.args.node.now c.args.goal _ c.requires)
+has_blocks-requires c = rw c.needs_of-n.ensures (posts-takes c.args.s c.args.node.now c.args.goal _ c.requires)
 
 pub count_up-requires : goal.count_up-requires
-count_up-requires c = let x = c in omega (arith, head_fits c.args.s, c.requires.aims.stretch.long)
+count_up-requires c = omega (arith, head_fits c.args.s, c.requires.aims.stretch.long)
 
 pub returns-then-not-has_blocks : goal.returns-then-not-has_blocks
-returns-then-not-has_blocks c = let x = c in post-few c.args.s c.args.node.now c.args.goal (letter_of c.args.header c.args.body.now) _ (c.needs_of-n.ensures ∙ needs_made c.args.header c.args.body.now c.args.s) _ (sym (c.if-not-has_blocks.true) ∙ c.has_blocks.ensures) c.count_up.ensures
+returns-then-not-has_blocks c = post-few c.args.s c.args.node.now c.args.goal (letter_of c.args.header c.args.body.now) _ (c.needs_of-n.ensures ∙ needs_made c.args.header c.args.body.now c.args.s) _ (sym (c.if-not-has_blocks.true) ∙ c.has_blocks.ensures) c.count_up.ensures
 
 pub returns-then-not-has_room : goal.returns-then-not-has_room
-returns-then-not-has_room c = let x = c in post_full c.args.s c.args.node.now c.args.goal (letter_of c.args.header c.args.body.now) _ (c.needs_of-n.ensures ∙ needs_made c.args.header c.args.body.now c.args.s) _ (sym (c.if-not-has_blocks.false) ∙ c.has_blocks.ensures) (sym (c.if-not-has_room.true) ∙ c.has_room.ensures) c.count_full.ensures
+returns-then-not-has_room c = post_full c.args.s c.args.node.now c.args.goal (letter_of c.args.header c.args.body.now) _ (c.needs_of-n.ensures ∙ needs_made c.args.header c.args.body.now c.args.s) _ (sym (c.if-not-has_blocks.false) ∙ c.has_blocks.ensures) (sym (c.if-not-has_room.true) ∙ c.has_room.ensures) c.count_full.ensures
 
 pub put_in-requires : goal.put_in-requires
-put_in-requires c = let x = c in record { posts = c.requires; has = rw c.needs_of-n.ensures at (sym c.has_blocks.ensures ∙ c.if-not-has_blocks.false) }
+put_in-requires c = record { posts = c.requires; has = rw c.needs_of-n.ensures at (sym c.has_blocks.ensures ∙ c.if-not-has_blocks.false) }
 
 pub returns : goal.returns
-returns c = let x = c in post-done c.args.s c.args.node.now c.args.goal (letter_of c.args.header c.args.body.now) _ (c.needs_of-n.ensures ∙ needs_made c.args.header c.args.body.now c.args.s) _ (sym (c.if-not-has_blocks.false) ∙ c.has_blocks.ensures) (sym (c.if-not-has_room.false) ∙ c.has_room.ensures) c.put_in.ensures
+returns c = post-done c.args.s c.args.node.now c.args.goal (letter_of c.args.header c.args.body.now) _ (c.needs_of-n.ensures ∙ needs_made c.args.header c.args.body.now c.args.s) _ (sym (c.if-not-has_blocks.false) ∙ c.has_blocks.ensures) (sym (c.if-not-has_room.false) ∙ c.has_room.ensures) c.put_in.ensures

@@ -3,4 +3,4 @@ use Rattle.posting.proofs.Rooms.{send_below}
 use Rattle.posting.proofs.send_has_room.Goals as goal
 
 pub returns : goal.returns
-returns c = let x = c in send_below c.args.s c.args.node.now c.args.q
+returns c = send_below c.args.s c.args.node.now c.args.q

@@ -3,7 +3,7 @@ use Rattle.posting.proofs.Rooms.{task_below, task_flag}
 use Rattle.posting.proofs.task_has_room.Goals as goal
 
 pub returns-then-node-q : goal.returns-then-node-q
-returns-then-node-q c = let x = c in task_below c.args.s c.args.node.now c.args.q c.requires c.if-node-q.true
+returns-then-node-q c = task_below c.args.s c.args.node.now c.args.q c.requires c.if-node-q.true
 
 pub returns : goal.returns
-returns c = let x = c in task_flag c.args.s c.args.node.now c.args.q c.requires c.if-node-q.false
+returns c = task_flag c.args.s c.args.node.now c.args.q c.requires c.if-node-q.false

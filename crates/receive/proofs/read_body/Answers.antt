@@ -4,7 +4,7 @@ use native.Mathlib.Omega.{arith}
 use Rattle.receive.proofs.read_body.Goals as goal
 
 pub read-requires : goal.read-requires
-read-requires c = let x = c in fits-lies c.args.s c.args.node.now c.args.b c.args.n c.args.out.now c.requires _ (omega arith)
+read-requires c = fits-lies c.args.s c.args.node.now c.args.b c.args.n c.args.out.now c.requires _ (omega arith)
 
 pub returns : goal.returns
-returns c = let x = c in fits-back c.args.s c.args.node.now c.args.b c.args.n c.args.out.now c.requires _ c.read.ensures
+returns c = fits-back c.args.s c.args.node.now c.args.b c.args.n c.args.out.now c.requires _ c.read.ensures

@@ -19,7 +19,7 @@ pub returns-then-not-is_known : goal.returns-then-not-is_known
 returns-then-not-is_known c = let x = c.args in let b = told_at (table_in x.memory.now) x.destination _ _ (sym c.seat_of-seat.ensures ∙ c.in-At.is) in refused_other x.memory.now x.destination x.source x.out.now c.requires b.0 (sym c.is_known.ensures ∙ c.if-not-is_known.true)
 
 pub collect-requires : goal.collect-requires
-collect-requires c = let x = c in seat-seated c.args.memory.now c.requires c.args.destination _ _ (sym c.seat_of-seat.ensures ∙ c.in-At.is)
+collect-requires c = seat-seated c.args.memory.now c.requires c.args.destination _ _ (sym c.seat_of-seat.ensures ∙ c.in-At.is)
 
 pub returns : goal.returns
 returns c = let x = c.args in let b = told_at (table_in x.memory.now) x.destination _ _ (sym c.seat_of-seat.ensures ∙ c.in-At.is) in received_is x.memory.now x.destination x.source x.out.now c.requires b.0 (sym c.is_known.ensures ∙ c.if-not-is_known.false) b.1.0 b.1.1 c.collect.ensures

@@ -3,7 +3,7 @@ use Rattle.send.proofs.Outcomes.{goal_same, goal_other}
 use Rattle.send.proofs.goal_of.Goals as goal
 
 pub returns-then-from-to : goal.returns-then-from-to
-returns-then-from-to c = let x = c in goal_same c.args.from c.args.to c.args.queue c.if-from-to.true
+returns-then-from-to c = goal_same c.args.from c.args.to c.args.queue c.if-from-to.true
 
 pub returns-else-from-to : goal.returns-else-from-to
-returns-else-from-to c = let x = c in goal_other c.args.from c.args.to c.args.queue c.if-from-to.false
+returns-else-from-to c = goal_other c.args.from c.args.to c.args.queue c.if-from-to.false

@@ -5,10 +5,8 @@ use Rattle.send.proofs.send_letter.Goals as goal
 
 pub post-requires : goal.post-requires
 post-requires c =
-    let x = c in
     posts-lent c.args.s c.args.memory.now c.args.header.from _ _ c.node_at-a.ensures.is c.node_size.ensures.is c.args.goal _ c.requires.posts
 
 pub returns : goal.returns
 returns c =
-    let x = c in
     posted-back c.args.s c.args.memory.now c.args.header.from _ _ c.node_at-a.ensures.is c.node_size.ensures.is c.args.goal (letter_of c.args.header c.args.body.now) _ _ c.post.ensures

@@ -10,24 +10,20 @@ use Rattle.setup.proofs.lay_memory.Goals as goal
 
 pub slice_bounds-lay_head-end : goal.slice_bounds-lay_head-end
 slice_bounds-lay_head-end c =
-    let y = c in
     omega (arith, nodes_fit c.args.s, c.requires.sized.long, c.clear.auto.words)
 
 pub lay_head-requires : goal.lay_head-requires
 lay_head-requires c =
-    let y = c in
     let k = c.clear in record { in_range = c.requires.sized.range; head_value = head_next c.args.s c.requires.sized.range k.new.words (cleared c.args.s c.args.memory.now k.new.words k.ensures c.requires.sized.long) }
 
 pub slice_bounds-copy-end : goal.slice_bounds-copy-end
 slice_bounds-copy-end c =
-    let y = c in
     let k = c.clear in
     let h = c.lay_head in
     omega (arith, nodes_fit c.args.s, c.requires.sized.long, k.auto.words, same_len_mid 0 (24 - 0) k.new.words h.new.head h.auto.head)
 
 pub lay_nodes-requires : goal.lay_nodes-requires
 lay_nodes-requires c =
-    let y = c in
     let k = c.clear in
     let h = c.lay_head in
     let t = c.copy in
@@ -43,7 +39,6 @@ lay_nodes-requires c =
 
 pub returns : goal.returns
 returns c =
-    let y = c in
     let k = c.clear in
     let h = c.lay_head in
     let t = c.copy in

@@ -15,14 +15,13 @@ long : (s : Settings) {d : List ℕ} → d ≡ replicate (node_size s) 0 → len
 long s e = ap length e ∙ length-replicate (node_size s) 0
 
 pub bounds-node-0 : goal.bounds-node-0
-bounds-node-0 c = let y = c in omega (arith, long c.args.s c.requires.node_value, some_words c.args.s)
+bounds-node-0 c = omega (arith, long c.args.s c.requires.node_value, some_words c.args.s)
 
 pub link_at-at-requires : goal.link_at-at-requires
-link_at-at-requires c = let y = c in record { in_range = c.requires.in_range; le_b = (omega arith, omega (arith, c.requires.in_range.m.low)) }
+link_at-at-requires c = record { in_range = c.requires.in_range; le_b = (omega arith, omega (arith, c.requires.in_range.m.low)) }
 
 pub loop-b-init : goal.loop-b-init
 loop-b-init c =
-    let y = c in
     let x = c.args in (
       omega arith,
       omega (arith, c.requires.in_range.m.low),
@@ -33,14 +32,13 @@ loop-b-init c =
     )
 
 pub offset_bounds-node-at : goal.offset_bounds-node-at
-offset_bounds-node-at c = let y = c in search (rules, node-small c.args.s c.requires.in_range)
+offset_bounds-node-at c = search (rules, node-small c.args.s c.requires.in_range)
 
 pub overflow_add-at : goal.overflow_add-at
-overflow_add-at c = let y = c in search (rules, node-small c.args.s c.requires.in_range)
+overflow_add-at c = search (rules, node-small c.args.s c.requires.in_range)
 
 pub loop-b-preserved : goal.loop-b-preserved
 loop-b-preserved c =
-    let y = c in
     let x = c.args in
     let t = c.loop-b in
     let e = link_next x.s c.requires.in_range t.b t.at (omega arith) t.invariant.5 in (
@@ -54,10 +52,9 @@ loop-b-preserved c =
     )
 
 pub shape_of-node : goal.shape_of-node
-shape_of-node c = let y = c in c.loop-b.invariant.2 ∙ sym (long c.args.s c.requires.node_value)
+shape_of-node c = c.loop-b.invariant.2 ∙ sym (long c.args.s c.requires.node_value)
 
 pub returns : goal.returns
 returns c =
-    let y = c in
     let t = c.loop-b in
     t.invariant.3 ∙ linked_all c.args.s c.requires.in_range (t.b - 1) (omega arith)

@@ -16,7 +16,6 @@ loop-i-init c = (search rules, refl, nodes_none c.args.s c.requires.sized.range 
 
 pub lay_node-requires : goal.lay_node-requires
 lay_node-requires c =
-    let x = c in
     let a : ℕ = c.node_at-at.result in
     let n : ℕ = c.node_size-words.result in
     let e = c.node_at-at.ensures in
@@ -29,7 +28,6 @@ lay_node-requires c =
 
 pub loop-i-preserved : goal.loop-i-preserved
 loop-i-preserved c =
-    let x = c in
     let l = c.loop-i in
     let a : ℕ = c.node_at-at.result in
     let n : ℕ = c.node_size-words.result in (
@@ -41,7 +39,6 @@ loop-i-preserved c =
 
 pub returns : goal.returns
 returns c =
-    let x = c in
     let l = c.loop-i in
     let q : l.i ≡ 6 = omega arith in
     l.invariant.2 ∙ rw q (nodes_all c.args.s c.requires.sized.range (take nodes_at c.args.memory.now) c.args.memory.now c.requires.sized.long)

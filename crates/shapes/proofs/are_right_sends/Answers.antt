@@ -10,26 +10,22 @@ loop-k-init c = (omega arith, every_none _)
 
 pub is_right_post-requires : goal.is_right_post-requires
 is_right_post-requires c =
-    let b = c in
-    let y = c in
     placed-send c.args.s c.args.node.now c.requires _ _ c.send_kind-kind.ensures c.send_at-q.ensures.fits
 
 pub returns-then-not-is_right_post : goal.returns-then-not-is_right_post
 unfolding right_sends
 returns-then-not-is_right_post c =
-    let t = c in
     turn_no _ 6 c.loop-k.k (omega arith) c.is_right_post.result
     (rw (← c.send_kind-kind.ensures, ← c.send_at-q.ensures.is) c.is_right_post.ensures)
     (c.if-not-is_right_post.true)
 
 pub loop-k-preserved : goal.loop-k-preserved
-loop-k-preserved c =
-    let t = c in (
-      omega arith,
-      turn_more _ 6 c.loop-k.k c.loop-k.invariant.1 c.is_right_post.result
-          (rw (← c.send_kind-kind.ensures, ← c.send_at-q.ensures.is) c.is_right_post.ensures)
-          (c.if-not-is_right_post.false),
-    )
+loop-k-preserved c = (
+  omega arith,
+  turn_more _ 6 c.loop-k.k c.loop-k.invariant.1 c.is_right_post.result
+      (rw (← c.send_kind-kind.ensures, ← c.send_at-q.ensures.is) c.is_right_post.ensures)
+      (c.if-not-is_right_post.false),
+)
 
 pub returns : goal.returns
 unfolding right_sends

@@ -14,17 +14,14 @@ loop-i-init c =
 
 pub returns-then-b-least : goal.returns-then-b-least
 returns-then-b-least c =
-    let t = c in
     within_low _ _ _ _ _ _ _ _ c.loop-i.invariant.1 (omega arith) (omega (arith, c.item-b.ensures))
 
 pub returns-then-most-b : goal.returns-then-most-b
 returns-then-most-b c =
-    let t = c in
     within-high _ _ _ _ _ _ _ _ c.loop-i.invariant.1 (omega arith) (omega (arith, c.item-b.ensures))
 
 pub loop-i-preserved : goal.loop-i-preserved
 loop-i-preserved c =
-    let t = c in
     let e = c.item-b.ensures in
     (omega arith, within_more _ _ _ _ _ _ _ _ c.loop-i.invariant.1 (omega arith) (omega arith) (omega arith))
 

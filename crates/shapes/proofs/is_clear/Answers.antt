@@ -7,22 +7,18 @@ use Rattle.shapes.proofs.is_clear.Goals as goal
 
 pub returns-then-count-eq0 : goal.returns-then-count-eq0
 returns-then-count-eq0 c =
-    let b = c in
     c.are_zero.ensures ∙ clear_none _ _ _ _ _ c.requires.first_value c.requires.count_value c.if-count-eq0.true
 
 pub returns-then-k-end : goal.returns-then-k-end
 returns-then-k-end c =
-    let b = c in
     c.are_zero-then-k-end.ensures ∙ clear_round _ _ _ _ _ c.requires.first_value c.requires.count_value (omega arith)
 
 pub returns-then-not-are_zero : goal.returns-then-not-are_zero
 returns-then-not-are_zero c =
-    let b = c in
     no_first _ _ (sym c.are_zero-2.ensures ∙ c.if-not-are_zero.true)
     ∙ clear_straight _ _ _ _ _ c.requires.first_value c.requires.count_value (omega arith)
 
 pub returns : goal.returns
 returns c =
-    let b = c in
     yes_first _ _ _ (sym c.are_zero-2.ensures ∙ c.if-not-are_zero.false) c.are_zero-3.ensures
     ∙ clear_straight _ _ _ _ _ c.requires.first_value c.requires.count_value (omega arith)

@@ -16,46 +16,34 @@ items_of-requires c = shape_queue _ _ _ c.requires.placed (sym c.is_in_shape.ens
 
 pub returns-then-items_of-eq0 : goal.returns-then-items_of-eq0
 returns-then-items_of-eq0 c =
-    let b = c in
     seat_empty _ _ _ _ _ (sym c.is_in_shape.ensures ∙ c.if-not-is_in_shape.false) (sym c.items_of.ensures ∙ c.if-items_of-eq0.true)
 
 pub returns-then-task-eq0 : goal.returns-then-task-eq0
 returns-then-task-eq0 c =
-    let d = c in
-    let b = c in
     seat-unbound _ _ _ _ _ (sym c.is_in_shape.ensures ∙ c.if-not-is_in_shape.false) (λ z. c.if-items_of-eq0.false (c.items_of.ensures ∙ z)) c.if-task-eq0.true
 
 pub item-requires : goal.item-requires
 item-requires c =
-    let b = c in record { queue = shape_queue _ _ _ c.requires.placed (sym c.is_in_shape.ensures ∙ c.if-not-is_in_shape.false); i_lt_slots = omega arith }
+    record { queue = shape_queue _ _ _ c.requires.placed (sym c.is_in_shape.ensures ∙ c.if-not-is_in_shape.false); i_lt_slots = omega arith }
 
 pub returns-then-item-eq0 : goal.returns-then-item-eq0
 returns-then-item-eq0 c =
-    let d = c in
-    let b = c in
     seat-gap _ _ _ _ _ (sym c.is_in_shape.ensures ∙ c.if-not-is_in_shape.false) (λ z. c.if-items_of-eq0.false (c.items_of.ensures ∙ z)) (sym c.item.ensures ∙ c.if-item-eq0.true)
 
 pub are_within-requires : goal.are_within-requires
 are_within-requires c =
-    let b = c in
     shape_queue _ _ _ c.requires.placed (sym c.is_in_shape.ensures ∙ c.if-not-is_in_shape.false)
 
 pub returns-then-not-are_within : goal.returns-then-not-are_within
 returns-then-not-are_within c =
-    let d = c in
-    let b = c in
     seat-high _ _ _ _ _ (sym c.is_in_shape.ensures ∙ c.if-not-is_in_shape.false) (λ z. c.if-items_of-eq0.false (c.items_of.ensures ∙ z)) (sym c.are_within.ensures ∙ c.if-not-are_within.true)
 
 pub gap_flag-requires : goal.gap_flag-requires
 gap_flag-requires c =
-    let b = c in
     shape_queue _ _ _ c.requires.placed (sym c.is_in_shape.ensures ∙ c.if-not-is_in_shape.false)
 
 pub returns : goal.returns
 returns c =
-    let f = c in
-    let d = c in
-    let b = c in
     let x = c.args in
     seat-flag _ _ _ _ _ (sym c.is_in_shape.ensures ∙ c.if-not-is_in_shape.false) (λ z. c.if-items_of-eq0.false (c.items_of.ensures ∙ z)) c.if-task-eq0.false (λ z. c.if-item-eq0.false (c.item.ensures ∙ z)) (sym c.are_within.ensures ∙ c.if-not-are_within.false) _
     (ap (λ (n : ℕ). eqb (get_or x.node.now (x.q + 2) 0) n) c.gap_flag.ensures)

@@ -8,12 +8,10 @@ use Rattle.showing.proofs.count_in.Goals as goal
 
 pub items_of-requires : goal.items_of-requires
 items_of-requires c =
-    let x = c in
     let e = node-part c.args.s c.args.memory.now c.args.i _ _ c.node_at-a.ensures.is c.node_size.ensures.is in
     rw e c.requires.queue
 
 pub returns : goal.returns
 returns c =
-    let x = c in
     let e = node-part c.args.s c.args.memory.now c.args.i _ _ c.node_at-a.ensures.is c.node_size.ensures.is in
     c.items_of.ensures ∙ ap (λ (l : List ℕ). items c.args.k l c.args.q) e

@@ -4,10 +4,8 @@ use Rattle.showing.proofs.shown_at.Goals as goal
 
 pub overflow_sub-result : goal.overflow_sub-result
 overflow_sub-result c =
-    let x = c in
     told-least c.args.s c.args.memory.now c.args.i c.args.b c.requires _ c.word_in-length.ensures
 
 pub returns : goal.returns
 returns c =
-    let x = c in
     shown_is c.args.s c.args.memory.now c.args.i c.args.b c.requires _ _ _ _ c.word_in-source.ensures c.word_in-length.ensures

@@ -8,13 +8,11 @@ use Rattle.showing.proofs.word_in.Goals as goal
 
 pub word_of-requires : goal.word_of-requires
 word_of-requires c =
-    let x = c in
     let e = node-part c.args.s c.args.memory.now c.args.i _ _ c.node_at-a.ensures.is c.node_size.ensures.is in
     rw e (begins-lies c.args.s c.args.memory.now c.args.i c.args.b c.requires.begins c.args.k c.requires.k_lt_header_words)
 
 pub returns : goal.returns
 returns c =
-    let x = c in
     let e = node-part c.args.s c.args.memory.now c.args.i _ _ c.node_at-a.ensures.is c.node_size.ensures.is in
     c.word_of.ensures ∙ ap (λ (l : List ℕ). word c.args.s l c.args.b c.args.k) e
     ∙ begins-word c.args.s c.args.memory.now c.args.i c.args.b c.requires.begins c.args.k c.requires.k_lt_header_words

@@ -10,7 +10,7 @@ unfolding gone
 returns-in_default c = then_stop _ (c.resume-a.ensures ∙ rw c.start-r.ensures) c.in_default.is
 
 pub carry_from-requires : goal.carry_from-requires
-carry_from-requires c = let x = c in resume_carries c.args.s c.args.memory.now c.args.j c.args.p c.requires (c.resume-a.ensures ∙ rw c.start-r.ensures) c.in-Done.is
+carry_from-requires c = resume_carries c.args.s c.args.memory.now c.args.j c.args.p c.requires (c.resume-a.ensures ∙ rw c.start-r.ensures) c.in-Done.is
 
 pub returns : goal.returns
 unfolding gone

@@ -5,19 +5,19 @@ use Rattle.turn.proofs.Resumes.{resumed_clear, resumed_two, resumed_three, at_th
 use Rattle.turn.proofs.resume.Goals as goal
 
 pub collect_from-requires : goal.collect_from-requires
-collect_from-requires c = let x = c in resume_collects c.args.s c.args.memory.now c.args.j c.args.p c.requires.sound_at c.args.r c.requires.r_value c.if-stage-lt2.true
+collect_from-requires c = resume_collects c.args.s c.args.memory.now c.args.j c.args.p c.requires.sound_at c.args.r c.requires.r_value c.if-stage-lt2.true
 
 pub returns-then-stage-lt2 : goal.returns-then-stage-lt2
-returns-then-stage-lt2 c = let x = c in c.collect_from.ensures ∙ sym (resumed_clear c.args.s c.args.memory.now c.args.j c.args.p c.args.r c.if-stage-lt2.true)
+returns-then-stage-lt2 c = c.collect_from.ensures ∙ sym (resumed_clear c.args.s c.args.memory.now c.args.j c.args.p c.args.r c.if-stage-lt2.true)
 
 pub deliver-requires : goal.deliver-requires
-deliver-requires c = let x = c in resume_delivers c.args.s c.args.memory.now c.args.j c.args.p c.requires.sound_at c.args.r c.requires.r_value c.if-stage-eq2.true
+deliver-requires c = resume_delivers c.args.s c.args.memory.now c.args.j c.args.p c.requires.sound_at c.args.r c.requires.r_value c.if-stage-eq2.true
 
 pub returns-then-stage-eq2 : goal.returns-then-stage-eq2
-returns-then-stage-eq2 c = let x = c in c.deliver.ensures ∙ sym (resumed_two c.args.s c.args.memory.now c.args.j c.args.p c.args.r c.if-stage-eq2.true)
+returns-then-stage-eq2 c = c.deliver.ensures ∙ sym (resumed_two c.args.s c.args.memory.now c.args.j c.args.p c.args.r c.if-stage-eq2.true)
 
 pub hand_on-requires : goal.hand_on-requires
-hand_on-requires c = let x = c in at_three c.args.s c.args.memory.now c.args.j c.args.p c.requires.sound_at (omega (arith, c.if-stage-lt2.false)) c.if-stage-eq2.false
+hand_on-requires c = at_three c.args.s c.args.memory.now c.args.j c.args.p c.requires.sound_at (omega (arith, c.if-stage-lt2.false)) c.if-stage-eq2.false
 
 pub returns : goal.returns
-returns c = let x = c in c.hand_on.ensures ∙ sym (resumed_three c.args.s c.args.memory.now c.args.j c.args.p c.args.r (omega (arith, c.if-stage-lt2.false)) c.if-stage-eq2.false)
+returns c = c.hand_on.ensures ∙ sym (resumed_three c.args.s c.args.memory.now c.args.j c.args.p c.args.r (omega (arith, c.if-stage-lt2.false)) c.if-stage-eq2.false)
