@@ -4,6 +4,7 @@
 --     take-free, take-chain, take-list, take_chained, take_other, take-text     what n blocks taken leave
 --     give_free, give_list, give_other, give_text     what a chain given back leaves
 --     give_taken     blocks taken and given back at once: nothing changed
+use Rattle.std.specs.Prelude.{None, Some}
 use mathlib.Core.Path.{◌≡◌, refl, sym, ap, ap₂, ◌∙◌, subst}
 use mathlib.Core.Bool.{true}
 use mathlib.Core.List.{List, [], ◌∷◌, ◌++◌}
@@ -22,7 +23,6 @@ use Rattle.layout.specs.Asked.{Stretch}
 use Rattle.blocks.specs.Chain.{link, chain, after, list, free, text, Within, Once, Chained}
 use Rattle.blocks.specs.Asked.{FreeList}
 use Rattle.blocks.specs.Moves.{enough, taken, taken_from, taken_answer, given_back}
-use Rattle.blocks.specs.declared.Taken.TheVariants.{First, Short}
 use Rattle.blocks.proofs.Steps.{down, head_fits}
 use Rattle.blocks.proofs.Chains.{Leads, text_in, first_in, set_first, set_link, leads-split}
 use Rattle.blocks.proofs.Rows.{rows, within_in, in_within, once-most, link_rows, rows_link, first_rows, rows_first, text_rows, chain_is, after_is, free_is, chain-leads, free-leads, block-long, head_long}
@@ -58,11 +58,11 @@ module _ (s : Settings) (node : List ℕ) (st : Stretch s node) where
   given-stretch n b = record { range = st.range; long = length-given s node n b ∙ st.long }
 
   -- ---- the answer; and where there are too few, nothing changed
-  pub take-answer : (n : ℕ) → n ≤ length (free s node) → taken_answer s node n ≡ First (get_or node 0 0)
+  pub take-answer : (n : ℕ) → n ≤ length (free s node) → taken_answer s node n ≡ Some (get_or node 0 0)
   unfolding taken_answer enough
   take-answer n h = rw (le-leb n (length (free s node)) h)
 
-  pub few-answer : (n : ℕ) → length (free s node) < n → taken_answer s node n ≡ Short
+  pub few-answer : (n : ℕ) → length (free s node) < n → taken_answer s node n ≡ None
   unfolding taken_answer enough
   few-answer n h = rw (lt-leb n (length (free s node)) h)
 

@@ -1,4 +1,5 @@
 -- What the code of taking finds: whether the free list has n blocks, and the n-th of them. Assumes nothing.
+use Rattle.std.specs.Prelude.{None, Some}
 use mathlib.Core.Path.{◌≡◌, ap, ◌∙◌}
 use mathlib.Core.Bool.{true, false}
 use mathlib.Core.List.{List}
@@ -13,7 +14,6 @@ use Rattle.layout.specs.Places.{link_at}
 use Rattle.blocks.specs.Chain.{link, list, free, Within}
 use Rattle.blocks.specs.Asked.{Takes}
 use Rattle.blocks.specs.Moves.{enough, taken, taken_from, taken_answer}
-use Rattle.blocks.specs.declared.Taken.TheVariants.{First, Short}
 use Rattle.blocks.proofs.Steps.{list_front, within_front, nth_in, nth_out}
 
 module _ (s : Settings) (node : List ℕ) (n : ℕ) (t : Takes s node n) where
@@ -49,11 +49,11 @@ module _ (s : Settings) (node : List ℕ) (n : ℕ) (t : Takes s node n) where
           rw has-enough
           (q ∙ ap (λ (x : ℕ). set (set node 0 x) (link_at s last) 0) p ∙ ap (λ (x : ℕ). set (set node 0 (link s node x)) (link_at s x) 0) last_is)
 
-      pub first_is : First (get_or node 0 0) ≡ taken_answer s node n
+      pub first_is : Some (get_or node 0 0) ≡ taken_answer s node n
       unfolding taken_answer
       first_is = rw has-enough
 
-    pub short_is : last ≡ 0 → Short ≡ taken_answer s node n
+    pub short_is : last ≡ 0 → None ≡ taken_answer s node n
     unfolding taken_answer
     short_is z = rw (too_few z)
 

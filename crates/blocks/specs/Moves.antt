@@ -1,10 +1,8 @@
 -- Taking blocks and giving them back: 'Letters'.
-use Rattle.std.specs.Prelude.{Bool, cond, List, ℕ, ◌-◌, leb, length, get_or, set}
+use Rattle.std.specs.Prelude.{Bool, cond, List, ℕ, ◌-◌, leb, length, get_or, set, None, Option, Some}
 use Rattle.settings.specs.declared.Settings.{Settings}
 use Rattle.layout.specs.Places.{first_free_at, link_at}
 use Rattle.blocks.specs.Chain.{link, after, free}
-use Rattle.blocks.specs.declared.Taken.{Taken}
-use Rattle.blocks.specs.declared.Taken.TheVariants.{First, Short}
 
 module _ (s : Settings) (node : List ℕ) where
   -- the free list has n blocks or more
@@ -22,8 +20,8 @@ module _ (s : Settings) (node : List ℕ) where
   taken n = cond (enough n) (taken_from n) node
 
   -- the answer: the first of the free list, which begins the chain, or that there are too few
-  unfoldable pub taken_answer : ℕ → Taken
-  taken_answer n = cond (enough n) (First (get_or node first_free_at 0)) Short
+  unfoldable pub taken_answer : ℕ → Option ℕ
+  taken_answer n = cond (enough n) (Some (get_or node first_free_at 0)) None
 
   -- 'Giving back puts the chain, in its order, before the free list': the chain of n blocks from b on
   unfoldable pub given_back : ℕ → ℕ → List ℕ

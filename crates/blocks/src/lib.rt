@@ -17,7 +17,7 @@ pub fn needs_of(s: Settings, n: usize) -> usize
     requires n_bound { n ≤ 4294967295 }
     ensures { result ≡ needs s n }
 {
-    (n + (s.b - 2)) / (s.b - 1)
+    n.div_ceil(s.b - 1)
 }
 
 // The block that follows b.
@@ -79,26 +79,17 @@ pub fn reach(node: &[u32], s: Settings, b: u32, n: usize) -> u32
     ensures { result ≡ get_or (list s node.now n b) (n - 1) 0 }
 {
     let mut at = b;
-    let mut rest = n;
-    while 1 < rest {
+    for _ in 1..n {
         if at == 0 {
             return 0;
         }
         at = link_of(node, s, at);
-        rest -= 1;
     }
     at
 }
 
-// What taking blocks answers: the first of them, or that there are too few.
-#[derive(Clone, Copy)]
-pub enum Taken {
-    First(u32),
-    Short,
-}
-
-// Takes the first n blocks of the free list, in its order.
-pub fn take(node: &mut [u32], s: Settings, n: usize) -> Taken
+// Takes the first n blocks of the free list, in its order, and answers the first of them; none where there are too few.
+pub fn take(node: &mut [u32], s: Settings, n: usize) -> Option<u32>
     requires { Takes s node.old n }
     ensures answer { result ≡ taken_answer s node.old n }
     ensures stored { node.new ≡ taken s node.old n }
@@ -106,10 +97,10 @@ pub fn take(node: &mut [u32], s: Settings, n: usize) -> Taken
     let first = node[0];
     let last = reach(node, s, first, n);
     if last == 0 {
-        return Taken::Short;
+        return None;
     }
     let next = link_of(node, s, last);
     node[0] = next;
     set_link(node, s, last, 0);
-    Taken::First(first)
+    Some(first)
 }

@@ -1,16 +1,13 @@
 -- What each function of a step asks of the next, had from what it was given. Assumes nothing.
 use mathlib.Core.Path.{◌≡◌, sym, ap, ◌∙◌, subst}
 use mathlib.Core.List.{List}
-use Prim.Native.Nat.{ℕ, zero, suc, ◌+◌, ◌-◌, ◌*◌, ◌≤◌, ◌<◌}
+use Prim.Native.Nat.{ℕ, zero, suc, ◌+◌, ◌*◌, ◌≤◌, ◌<◌}
 use native.Mathlib.Omega.{arith}
-use lib.ListN.{length, get_or}
+use lib.ListN.{length}
 use Rattle.words.proofs.Lists.{put_other}
-use Rattle.words.proofs.Parts.{get_d_part}
 use Rattle.settings.specs.declared.Settings.{Settings}
 use Rattle.settings.specs.Range.{InRange}
-use Rattle.layout.specs.Places.{nodes, send_at, ack_at, node_at, node_end, node, with_node}
-use Rattle.layout.proofs.Fits.{send-fits}
-use Rattle.layout.proofs.MemoryRows.{stretch-fits}
+use Rattle.layout.specs.Places.{nodes, send_at, ack_at, node, with_node}
 use Rattle.queues.specs.declared.Kind.{Kind}
 use Rattle.queues.specs.Queue.{Queue, send_kind, ack_kind, items}
 use Rattle.queues.specs.Moves.{appended}
@@ -32,15 +29,6 @@ use Rattle.stages.proofs.Stood.{stood_sized, stood_lent, stood_stretch, stood_se
 use Rattle.stages.proofs.Copying.{with_sized}
 use Rattle.carrying.specs.Asked.{Delivers, Carries, CarriesFrom, Collects, CollectsFrom}
 use Rattle.carrying.proofs.Sums.{carried-most, all_most, collected-back, all_back}
-
--- ---- node j's first word
-pub free_in : (s : Settings) (m : List ℕ) (j a : ℕ) → Lent s m j → a ≡ node_at s j → (a < length m) × (get_or m a 0 ≡ space_of s j m)
-free_in s m j a l e =
-    let f = stretch-fits s j l.there in
-    let g = send-fits s 0 (omega arith) in
-    let n = l.sized.long in
-    let z : node_at s j + 0 ≡ a = omega arith in
-    (omega arith, ap (λ (k : ℕ). get_or m k 0) (sym z) ∙ sym (get_d_part m (node_at s j) (node_end s j) (omega arith) (omega arith) 0 (omega arith)))
 
 -- ---- how many items a queue of node i for j has
 module _ (s : Settings) (m : List ℕ) (j i : ℕ) (g : SoundAt s m j at_rest) (h : i < nodes) where
@@ -123,19 +111,18 @@ module _ (s : Settings) (m : List ℕ) (j i : ℕ) (r : Round) (g : Carries s m 
       record { stands = rw f x; few = g.few }
 
 -- ---- step 2 on one node
-module _ (s : Settings) (m : List ℕ) (j i k : ℕ) (r : Round) (g : Carries s m j i k r) (h : 1 ≤ k) where
+module _ (s : Settings) (m : List ℕ) (j i k l : ℕ) (r : Round) (g : Carries s m j i k r) (h : k ≡ l + 1) where
   pub all_one : Carries s m j i 1 r
   all_one =
       let f = g.few in
-      let l = g.waits.letters in
+      let w = g.waits.letters in
       record { waits = record { stands = g.waits.stands; there = g.waits.there; letters = omega arith }; few = omega arith }
 
-  pub all_next : {m₁ : List ℕ} {a : Round} → post m₁ a ≡ carried s j m i r → a.how ≡ Done → Carries s m₁ j i (k - 1) a
+  pub all_next : {m₁ : List ℕ} {a : Round} → post m₁ a ≡ carried s j m i r → a.how ≡ Done → Carries s m₁ j i l a
   all_next {m₁} {a} e t =
-      let z : k ≡ k - 1 + 1 = omega arith in
-      let w : Waits s m j i (k - 1 + 1) = subst (λ (n : ℕ). Waits s m j i n) z g.waits in
+      let w : Waits s m j i (l + 1) = subst (λ (n : ℕ). Waits s m j i n) h g.waits in
       let d : (carried s j m i r).round.how ≡ Done = subst (λ (p : Post). p.round.how ≡ Done) e t in
-      let x : Waits s m₁ j i (k - 1) = subst (λ (p : Post). Waits s p.memory j i (k - 1)) (sym e) (carried_next s m j i (k - 1) r w d) in
+      let x : Waits s m₁ j i l = subst (λ (p : Post). Waits s p.memory j i l) (sym e) (carried_next s m j i l r w d) in
       let y : a.letters ≤ r.letters + 1 = subst (λ (p : Post). p.round.letters ≤ r.letters + 1) (sym e) (carried-most s j m i r) in
       record { waits = x; few = omega (arith, g.few) }
 
@@ -165,18 +152,17 @@ module _ (s : Settings) (m : List ℕ) (j i k : ℕ) (r : Round) (g : Collects s
   blocks-few : s.m ≤ 1024
   blocks-few = (stood_sized s m j at_rest g.owes.stands).range.m.high
 
-  module _ (h : 1 ≤ k) where
+  module _ (l : ℕ) (h : k ≡ l + 1) where
     pub back_one : Collects s m j i 1 r
     back_one =
         let f = g.few in
-        let l = g.owes.items in
+        let w = g.owes.items in
         record { owes = record { stands = g.owes.stands; there = g.owes.there; items = omega arith }; few = omega arith }
 
-    pub back_next : {m₁ : List ℕ} {a : Round} → post m₁ a ≡ collected s j m i r → Collects s m₁ j i (k - 1) a
+    pub back_next : {m₁ : List ℕ} {a : Round} → post m₁ a ≡ collected s j m i r → Collects s m₁ j i l a
     back_next {m₁} {a} e =
-        let z : k ≡ k - 1 + 1 = omega arith in
-        let w : Owes s m j i (k - 1 + 1) = subst (λ (n : ℕ). Owes s m j i n) z g.owes in
-        let x : Owes s m₁ j i (k - 1) = subst (λ (p : Post). Owes s p.memory j i (k - 1)) (sym e) (collected_next s m j i (k - 1) r w) in
+        let w : Owes s m j i (l + 1) = subst (λ (n : ℕ). Owes s m j i n) h g.owes in
+        let x : Owes s m₁ j i l = subst (λ (p : Post). Owes s p.memory j i l) (sym e) (collected_next s m j i l r w) in
         let y : a.back ≤ r.back + 1024 = subst (λ (p : Post). p.round.back ≤ r.back + 1024) (sym e) (collected-back s j blocks-few m i r) in
         record { owes = x; few = omega (arith, g.few) }
 

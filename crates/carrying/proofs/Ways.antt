@@ -4,6 +4,7 @@ use mathlib.Core.List.{List}
 use Prim.Native.Nat.{ℕ, suc, ◌+◌, ◌-◌, ◌≤◌, ◌<◌}
 use native.Mathlib.Omega.{arith}
 use lib.ListN.{length}
+use Rattle.std.proofs.Common.{add-one}
 use Rattle.settings.specs.declared.Settings.{Settings}
 use Rattle.sound.specs.Reading.{send_items, ack_items}
 use Rattle.postman.specs.declared.Stage.{Stage}
@@ -35,9 +36,6 @@ module _ (f : List ℕ → Round → Post) {p : Post} {m : List ℕ} {r : Round}
   unfolding and_then
   then_go {q} e t u = subst (λ (x : Post). q ≡ and_then x f) e (u ∙ on_done r.how (post m r) (f m r) t)
 
-down : (k : ℕ) → 1 ≤ k → k ≡ suc (k - 1)
-down k h = omega arith
-
 from_none : (i : ℕ) → 6 ≤ i → 6 - i ≡ 0
 from_none i h = omega arith
 
@@ -51,14 +49,14 @@ module _ (s : Settings) (j : ℕ) where
     unfolding carried_all
     all_none e = rw e
 
-    module _ {m' : List ℕ} {a : Round} (h : 1 ≤ k) (e : post m' a ≡ carried s j m i r) where
+    module _ (l : ℕ) {m' : List ℕ} {a : Round} (h : k ≡ l + 1) (e : post m' a ≡ carried s j m i r) where
       pub all-stop : {n : ℕ} → a.how ≡ Stopped n → post m' a ≡ carried_all s j k m i r
       unfolding carried_all
-      all-stop t = rw (down k h) (then_stop _ e t)
+      all-stop t = rw (h, add-one l) (then_stop _ e t)
 
-      pub all_go : {q : Post} → a.how ≡ Done → q ≡ carried_all s j (k - 1) m' i a → q ≡ carried_all s j k m i r
+      pub all_go : {q : Post} → a.how ≡ Done → q ≡ carried_all s j l m' i a → q ≡ carried_all s j k m i r
       unfolding carried_all
-      all_go t u = rw (down k h) (then_go _ e t u)
+      all_go t u = rw (h, add-one l) (then_go _ e t u)
 
   -- ---- step 2 on the nodes from i on
   module _ (m : List ℕ) (i : ℕ) (r : Round) where
@@ -81,9 +79,9 @@ module _ (s : Settings) (j : ℕ) where
     unfolding collected_all
     back_none k e = rw e
 
-    pub back_go : (k : ℕ) {m' : List ℕ} {a : Round} {q : Post} → 1 ≤ k → post m' a ≡ collected s j m i r → q ≡ collected_all s j (k - 1) m' i a → q ≡ collected_all s j k m i r
+    pub back_go : (k l : ℕ) {m' : List ℕ} {a : Round} {q : Post} → k ≡ l + 1 → post m' a ≡ collected s j m i r → q ≡ collected_all s j l m' i a → q ≡ collected_all s j k m i r
     unfolding collected_all into
-    back_go k h e u = rw (down k h, ← e) u
+    back_go k l h e u = rw (h, add-one l, ← e) u
 
     pub backs_none : 6 ≤ i → post m r ≡ collected_from s j (6 - i) m i r
     unfolding collected_from

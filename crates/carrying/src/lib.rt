@@ -37,8 +37,7 @@ fn first_free(memory: &[u32], s: Settings, j: usize) -> u32
     requires { Lent s memory.now j }
     ensures { result ≡ space_of s j memory.now }
 {
-    let a = layout::node_at(s, j);
-    memory[a]
+    layout::stretch(memory, s, j)[0]
 }
 
 // The number of items of the queue at word q of node i.
@@ -46,9 +45,7 @@ fn count_in(memory: &[u32], s: Settings, i: usize, k: Kind, q: usize) -> usize
     requires { HasQueue s memory.now i k q }
     ensures { result ≡ items k (node s memory.now i) q }
 {
-    let a = layout::node_at(s, i);
-    let e = a + layout::node_size(s);
-    queues::items_of(&memory[a..e], k, q)
+    queues::items_of(layout::stretch(memory, s, i), k, q)
 }
 
 // The letters in node i's send queue for j.
@@ -115,15 +112,12 @@ fn carry_all(memory: &mut [u32], s: Settings, j: usize, i: usize, k: usize, r: R
     requires { Carries s memory.old j i k r }
     ensures { post memory.new result ≡ carried_all s j k memory.old i r }
 {
-    let mut letters = k;
     let mut a = r;
-    while 0 < letters {
+    for _letter in 0..k {
         a = carry(memory, s, j, i, a);
-        let how = a.how;
-        let Stage::Done = how else {
+        let Stage::Done = a.how else {
             return a;
         };
-        letters -= 1;
     }
     a
 }
@@ -133,16 +127,13 @@ pub fn carry_from(memory: &mut [u32], s: Settings, j: usize, i: usize, r: Round)
     requires { CarriesFrom s memory.old j i r }
     ensures { post memory.new result ≡ carried_from s j (nodes - i) memory.old i r }
 {
-    let mut other = i;
     let mut a = r;
-    while other < 6 {
+    for other in i..6 {
         let k = letters_for(memory, s, j, other);
         a = carry_all(memory, s, j, other, k, a);
-        let how = a.how;
-        let Stage::Done = how else {
+        let Stage::Done = a.how else {
             return a;
         };
-        other += 1;
     }
     a
 }
@@ -156,16 +147,14 @@ fn collect(memory: &mut [u32], s: Settings, j: usize, i: usize, r: Round) -> Rou
     postman::blocks_back(r, n)
 }
 
-// Step 1 on node i: k items.
+// Step 1 on node i: k items. (No step here stops; one loop for this and carry_all would take a closure with clauses, and is no plainer.)
 fn collect_all(memory: &mut [u32], s: Settings, j: usize, i: usize, k: usize, r: Round) -> Round
     requires { Collects s memory.old j i k r }
     ensures { post memory.new result ≡ collected_all s j k memory.old i r }
 {
-    let mut items = k;
     let mut a = r;
-    while 0 < items {
+    for _item in 0..k {
         a = collect(memory, s, j, i, a);
-        items -= 1;
     }
     a
 }
@@ -175,12 +164,10 @@ pub fn collect_from(memory: &mut [u32], s: Settings, j: usize, i: usize, r: Roun
     requires { CollectsFrom s memory.old j i r }
     ensures { post memory.new result ≡ collected_from s j (nodes - i) memory.old i r }
 {
-    let mut other = i;
     let mut a = r;
-    while other < 6 {
+    for other in i..6 {
         let k = acks_for(memory, s, j, other);
         a = collect_all(memory, s, j, other, k, a);
-        other += 1;
     }
     a
 }

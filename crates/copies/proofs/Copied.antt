@@ -6,10 +6,10 @@ use Prim.Native.Nat.{ℕ, suc, ◌+◌, ◌-◌, ◌≤◌, ◌<◌, min}
 use native.Mathlib.Omega.{arith}
 use lib.Dec.{eqb, leb}
 use lib.ListN.{length, get_or, take}
-use lib.Seq.{ext_get_or}
+use lib.Pointwise.{pointwise}
 use borrow.Author.Tests.{eq-eqb, ne_eqb, leb-true}
 use Rattle.words.specs.Words.{all, alike, part}
-use Rattle.words.proofs.Lists.{split, and-true, every_at, all_at, all_head, alike_same, same_alike}
+use Rattle.words.proofs.Lists.{split, and-true, every_at, all_at, all_head, alike_same}
 use Rattle.settings.specs.declared.Settings.{Settings}
 use Rattle.layout.specs.Places.{nodes, node, send_at, block_at}
 use Rattle.layout.proofs.NodeRows.{by-send}
@@ -35,15 +35,16 @@ use Rattle.places.specs.Given.{stands_right}
 use Rattle.copies.specs.Copy.{copy_right, Lettered}
 
 -- ---- rows of words
-module _ (a b : List ℕ) where
-  pub differ_at : (i : ℕ) → (get_or a i 0 ≡ get_or b i 0 → ⊥) → false ≡ alike a b
-  differ_at i h = split (alike a b) (λ t. absurd (h (ap (λ (l : List ℕ). get_or l i 0) (alike_same a b t)))) (λ t. sym t)
+-- the words compared one by one
+pub pointwise_alike : (a b : List ℕ) → pointwise eqb a b ≡ alike a b
+unfolding alike
+pointwise_alike [] [] = refl
+pointwise_alike [] (y ∷ b) = refl
+pointwise_alike (x ∷ a) [] = refl
+pointwise_alike (x ∷ a) (y ∷ b) = ap (λ (t : Bool). eqb x y && t) (pointwise_alike a b)
 
-  pub agree_all : length a ≡ length b → ((k : ℕ) → k < length a → get_or a k 0 ≡ get_or b k 0) → true ≡ alike a b
-  agree_all l f = let e : a ≡ b = ext_get_or 0 a b l f in rw e (sym (same_alike b))
-
-  pub differ_long : (length a ≡ length b → ⊥) → false ≡ alike a b
-  differ_long h = split (alike a b) (λ t. absurd (h (ap length (alike_same a b t)))) (λ t. sym t)
+differ_long : (a b : List ℕ) → (length a ≡ length b → ⊥) → false ≡ alike a b
+differ_long a b h = split (alike a b) (λ t. absurd (h (ap length (alike_same a b t)))) (λ t. sym t)
 
 -- lists joined, the fronts as long as each other
 alike-append : (p q u v : List ℕ) → length p ≡ length q → alike (p ++ u) (q ++ v) ≡ alike p q && alike u v

@@ -1,7 +1,7 @@
 // The letter that a postman holds in stage 2, compared with the letter that it copies.
 #![tactic(auto)]
 
-ghost use Rattle.std.specs.Prelude.{◌≡◌, ◌+◌, ◌-◌, ◌≤◌, ◌<◌, length};
+ghost use Rattle.std.specs.Prelude.{◌≡◌, ◌+◌, ◌-◌, ◌≤◌, ◌<◌};
 ghost use Rattle.words.specs.Words.{every, alike, part};
 ghost use Rattle.layout.specs.Places.{nodes, block_at};
 ghost use Rattle.blocks.specs.Asked.{Block};
@@ -11,21 +11,6 @@ ghost use Rattle.copies.specs.Copy.{copy_right, Lettered};
 
 use settings::Settings;
 
-// Whether the two rows of words are the same.
-fn is_same(a: &[u32], b: &[u32]) -> bool
-    requires { length a.now ≡ length b.now }
-    ensures { result ≡ alike a.now b.now }
-{
-    let mut i: usize = 0;
-    while i < a.len() {
-        if a[i] != b[i] {
-            return false;
-        }
-        i += 1;
-    }
-    true
-}
-
 // Whether the first n words of block x in stretch a and of block y in stretch c are the same.
 fn is_same_block(a: &[u32], x: u32, c: &[u32], y: u32, s: Settings, n: usize) -> bool
     requires block { Block s a.now x }
@@ -34,10 +19,8 @@ fn is_same_block(a: &[u32], x: u32, c: &[u32], y: u32, s: Settings, n: usize) ->
     ensures { result ≡ alike (part a.now (block_at s x) (block_at s x + n)) (part c.now (block_at s y) (block_at s y + n)) }
 {
     let p = layout::block_at(s, x as usize);
-    let e = p + n;
     let q = layout::block_at(s, y as usize);
-    let f = q + n;
-    is_same(&a[p..e], &c[q..f])
+    a[p..p + n] == c[q..q + n]
 }
 
 // Whether the letters that block b begins in stretch a and block d in stretch c have the same words: both are gone through block by block.
@@ -52,8 +35,9 @@ fn is_same_letter(a: &[u32], b: u32, c: &[u32], d: u32, s: Settings) -> bool
     }
     let mut x = b;
     let mut y = d;
+    // a turn compares as many words as a block carries, so no range counts them
     while 0 < left {
-        let n = letters::fewer(left, s.b - 1);
+        let n = left.min(s.b - 1);
         if !is_same_block(a, x, c, y, s, n) {
             return false;
         }
@@ -88,12 +72,10 @@ pub fn are_right_copies(memory: &[u32], s: Settings) -> bool
     requires { Lettered s memory.now }
     ensures { result ≡ every nodes (copy_right s memory.now) }
 {
-    let mut j: usize = 0;
-    while j < 6 {
+    for j in 0..6 {
         if !is_right_copy(memory, s, j) {
             return false;
         }
-        j += 1;
     }
     true
 }

@@ -30,11 +30,7 @@ fn move_words(memory: &mut [u32], from: usize, to: usize, n: usize)
     requires { Moves memory.old from to n }
     ensures { memory.new ≡ sets memory.old to (part memory.old from (from + n)) }
 {
-    let mut k: usize = 0;
-    while k < n {
-        memory[to + k] = memory[from + k];
-        k += 1;
-    }
+    memory.copy_within(from..from + n, to);
 }
 
 // Copies the words of block x of node i, `left` at most, over the first of block y of node j; how many they are.
@@ -51,7 +47,7 @@ fn copy_block(
     ensures answer { result ≡ min left (s.b - 1) }
     ensures stored { memory.new ≡ with_node s memory.old j (sets (stretch s memory.old j) (block_at s y) (piece s (stretch s memory.old i) x 0 left)) }
 {
-    let n = letters::fewer(left, s.b - 1);
+    let n = left.min(s.b - 1);
     let from = layout::node_at(s, i) + layout::block_at(s, x as usize);
     let to = layout::node_at(s, j) + layout::block_at(s, y as usize);
     move_words(memory, from, to, n);
@@ -64,17 +60,16 @@ pub fn copy(memory: &mut [u32], s: Settings, n: usize, i: usize, b: u32, j: usiz
     requires { Copies s memory.old n i b j c }
     ensures { memory.new ≡ copied s memory.old n i b j c }
 {
-    let mut owed = blocks::needs_of(s, n);
+    let owed = blocks::needs_of(s, n);
     let mut left = n;
     let mut x = b;
     let mut y = c;
-    while 0 < owed {
+    for _ in 0..owed {
         let behind_x = link_in(memory, s, i, x);
         let behind_y = link_in(memory, s, j, y);
         let k = copy_block(memory, s, left, i, x, j, y);
         x = behind_x;
         y = behind_y;
         left -= k;
-        owed -= 1;
     }
 }

@@ -1,4 +1,5 @@
 -- Queues worked through, each word computed: round the end twice; gaps at the second place, at the last, and everywhere but the first. Assumes nothing.
+use Rattle.std.specs.Prelude.{None, Some}
 use mathlib.Core.Path.{◌≡◌, refl}
 use mathlib.Core.List.{List, [], ◌∷◌}
 use Prim.Native.Nat.{ℕ}
@@ -9,7 +10,6 @@ use Rattle.queues.specs.Queue.{run, send_kind}
 use Rattle.queues.specs.Moves.{counted, added, appended, dropped}
 use Rattle.queues.specs.Items.{live, gap_flag}
 use Rattle.gaps.specs.Close.{laid, closed, cramped, roomy, task_appended}
-use Rattle.taking.specs.declared.Found.TheVariants.{At, Nothing}
 use Rattle.taking.specs.Find.{from, wanted, first_from}
 use Rattle.taking.specs.Take.{cleared, first_out, out, flagged, taken_out}
 use Rattle.figures.specs.Table.{settings}
@@ -129,10 +129,10 @@ unfolding roomy cramped closed laid run live gap_flag appended added counted mor
 one-appended = refl
 
 -- ---- gaps are passed over: the first letter among 0, 0, 7, 9 stands at place 2, and among 0, 0 there is none
-pub found_past : first_from (wanted s [] 0) 0 (0 ∷ 0 ∷ 7 ∷ 9 ∷ []) ≡ At 2
+pub found_past : first_from (wanted s [] 0) 0 (0 ∷ 0 ∷ 7 ∷ 9 ∷ []) ≡ Some 2
 unfolding first_from wanted from
 found_past = refl
 
-pub found_none : first_from (wanted s [] 0) 0 (0 ∷ 0 ∷ []) ≡ Nothing
+pub found_none : first_from (wanted s [] 0) 0 (0 ∷ 0 ∷ []) ≡ None
 unfolding first_from wanted from
 found_none = refl

@@ -1,4 +1,5 @@
 -- Closing gaps leaves the live items in their order, flag 0; so does the append that closes them first, and its item comes last. Assumes nothing.
+use Rattle.std.specs.Prelude.{Err, Ok}
 use mathlib.Core.Path.{◌≡◌, refl, ap, ◌∙◌}
 use mathlib.Core.Bool.{cond}
 use mathlib.Core.Logic.{⊎_elim}
@@ -14,7 +15,6 @@ use Rattle.words.proofs.Lists.{same?, both, and-false, le_or_lt}
 use Rattle.settings.specs.declared.Settings.{Settings}
 use Rattle.layout.specs.Places.{items_word, gap_word}
 use Rattle.queues.specs.declared.Kind.{Kind}
-use Rattle.queues.specs.declared.Appended.TheVariants.{Done, Full}
 use Rattle.queues.specs.Queue.{start, items, slot_at, contents, task_kind, Placed, Queue}
 use Rattle.queues.specs.Items.{live, gap_flag}
 use Rattle.queues.specs.Tasks.{TaskQueue}
@@ -102,15 +102,15 @@ module _ (s : Settings) (l : List ℕ) (q : ℕ) (xs : List ℕ) (t : TaskRing s
       rw (eq-eqb (items k l q) s.t (count ∙ e), eq-eqb (get_or l (q + gap_word) 0) 1 (t.flag ∙ g)) (closed_task s l q xs t.ring)
 
   -- AN APPEND WITH ROOM
-  pub append-room : (x : ℕ) → (x ≡ 0 → ⊥) → length xs < s.t → TaskRing s (task_appended s l q x) q (xs ++ x ∷ []) × (task_answer s l q ≡ Done)
+  pub append-room : (x : ℕ) → (x ≡ 0 → ⊥) → length xs < s.t → TaskRing s (task_appended s l q x) q (xs ++ x ∷ []) × (task_answer s l q ≡ Ok tt)
   append-room x n h = task_room s (roomy s l q) q xs (roomy-room h) x n h
 
   -- AN APPEND THAT CLOSES GAPS
-  pub append-gap : (x : ℕ) → (x ≡ 0 → ⊥) → length xs ≡ s.t → gap_flag xs ≡ 1 → TaskRing s (task_appended s l q x) q (live xs ++ x ∷ []) × (task_answer s l q ≡ Done)
+  pub append-gap : (x : ℕ) → (x ≡ 0 → ⊥) → length xs ≡ s.t → gap_flag xs ≡ 1 → TaskRing s (task_appended s l q x) q (live xs ++ x ∷ []) × (task_answer s l q ≡ Ok tt)
   append-gap x n e g = task_room s (roomy s l q) q (live xs) (roomy-gap e g) x n (omega (arith, live_fewer xs g))
 
   -- AN APPEND THAT FINDS NO ROOM
-  pub append_full : (x : ℕ) → length xs ≡ s.t → gap_flag xs ≡ 0 → TaskRing s (task_appended s l q x) q xs × (task_answer s l q ≡ Full)
+  pub append_full : (x : ℕ) → length xs ≡ s.t → gap_flag xs ≡ 0 → TaskRing s (task_appended s l q x) q xs × (task_answer s l q ≡ Err (record {}))
   append_full x e g = task_full s (roomy s l q) q xs (roomy_full g) x (omega arith)
 
   -- the three cases
@@ -130,7 +130,7 @@ module _ (s : Settings) (l : List ℕ) (q : ℕ) (xs : List ℕ) (t : TaskRing s
       (λ e g. task_queue s (task_appended s l q x) q (append_full x e g).0)
 
   -- 'append to a queue at its length, gaps closed': an append is refused where the live items have reached the length
-  pub append_refused : task_answer s l q ≡ cond (ltb (length (live xs)) s.t) Done Full
+  pub append_refused : task_answer s l q ≡ cond (ltb (length (live xs)) s.t) (Ok tt) (Err (record {}))
   append_refused =
       append_cases
       (λ h. (append-room 1 (λ e. omega arith) h).1 ∙ rw (lt-ltb (length (live xs)) s.t (omega (arith, length-live xs))))

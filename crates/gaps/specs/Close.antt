@@ -1,9 +1,9 @@
 -- Closing the gaps of a task queue, and the append that closes them first: 'Send'.
-use Rattle.std.specs.Prelude.{Bool, cond, ◌&&◌, List, ℕ, zero, suc, ◌+◌, eqb, length, get_or, set}
+use Rattle.std.specs.Prelude.{Bool, cond, ◌&&◌, List, ℕ, zero, suc, ◌+◌, eqb, length, get_or, set, Result}
 use Rattle.settings.specs.declared.Settings.{Settings}
 use Rattle.layout.specs.Places.{items_word, gap_word}
 use Rattle.queues.specs.declared.Kind.{Kind}
-use Rattle.queues.specs.declared.Appended.{Appended}
+use Rattle.queues.specs.declared.Full.{Full}
 use Rattle.queues.specs.Queue.{items, slot_at, contents, task_kind}
 use Rattle.queues.specs.Moves.{appended, append_answer}
 use Rattle.queues.specs.Items.{live}
@@ -32,5 +32,5 @@ module _ (s : Settings) (node : List ℕ) (q : ℕ) where
   abbrev pub task_appended : ℕ → List ℕ
   task_appended x = appended (task_kind s) roomy q x
 
-  abbrev pub task_answer : Appended
+  abbrev pub task_answer : Result Unit Full
   task_answer = append_answer (task_kind s) roomy q

@@ -7,7 +7,7 @@ ghost use Rattle.queues.specs.Items.{live};
 ghost use Rattle.gaps.specs.Close.{laid, closed, roomy, task_appended, task_answer};
 ghost use Rattle.gaps.specs.Row.{Row};
 
-use queues::{Appended, Kind};
+use queues::{Full, Kind};
 use settings::Settings;
 
 // Copies the live items to the row, and answers how many they are.
@@ -18,14 +18,12 @@ fn gather(node: &[u32], k: Kind, q: usize, row: &mut [u32; 255]) -> u32
 {
     let items = queues::items_of(node, k, q);
     let mut n: usize = 0;
-    let mut i: usize = 0;
-    while i < items {
+    for i in 0..items {
         let x = queues::item(node, k, q, i);
         if x != 0 {
             row[n] = x;
             n += 1;
         }
-        i += 1;
     }
     n as u32
 }
@@ -36,11 +34,9 @@ fn lay(node: &mut [u32], k: Kind, q: usize, row: &[u32; 255])
     ensures { node.new ≡ laid k node.old q row.now k.slots }
 {
     let first = node[q] as usize;
-    let mut i: usize = 0;
-    while i < k.slots {
+    for i in 0..k.slots {
         let at = queues::slot_at(k, q, first, i);
         node[at] = row[i];
-        i += 1;
     }
 }
 
@@ -62,19 +58,13 @@ fn make_room(node: &mut [u32], s: Settings, q: usize)
     requires { Queue (task_kind s) node.old q }
     ensures { node.new ≡ roomy s node.old q }
 {
-    let items = node[q + 1] as usize;
-    let flag = node[q + 2];
-    if items != s.t {
-        return;
+    if node[q + 1] as usize == s.t && node[q + 2] == 1 {
+        close(node, s, q);
     }
-    if flag != 1 {
-        return;
-    }
-    close(node, s, q);
 }
 
 // Puts an item behind the last of a task queue, closing its gaps first where that makes room, or counts that there was none.
-pub fn append(node: &mut [u32], s: Settings, q: usize, item: u32) -> Appended
+pub fn append(node: &mut [u32], s: Settings, q: usize, item: u32) -> Result<(), Full>
     requires { Queue (task_kind s) node.old q }
     ensures { (node.new ≡ task_appended s node.old q item) × (result ≡ task_answer s node.old q) }
 {

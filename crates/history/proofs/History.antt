@@ -1,6 +1,7 @@
 -- DEMAND 3: after any calls from a successful set-up on, the letters accepted are those received and then those on the way. Assumes nothing.
 --     begins     a successful set-up; goes_on     one call; runs     any calls
 --     holds     DEMAND 3 after them
+use Rattle.std.specs.Prelude.{Err, Ok, Result}
 use mathlib.Core.Path.{◌≡◌, refl, sym, ap, ap₂, ◌∙◌, subst}
 use mathlib.Core.Bool.{Bool, true, false, cond, ◌&&◌, false≢true}
 use mathlib.Core.List.{List, [], ◌∷◌, ◌++◌, map, append-nil, append_assoc}
@@ -22,16 +23,19 @@ use Rattle.letters.specs.Letter.{onto}
 use Rattle.sound.specs.Reading.{settings_in, table_in}
 use Rattle.sound.specs.Sound.{sound}
 use Rattle.sound.proofs.Gives.{gives_table}
-use Rattle.setup.specs.declared.SetUp.TheVariants.{Done as SetUp-done, SettingOutOfRange, WrongTable, OtherSize}
+use Rattle.setup.specs.declared.SetUpRefusal.{SetUpRefusal}
+use Rattle.setup.specs.declared.SetUpRefusal.TheVariants.{SettingOutOfRange, WrongTable, OtherSize}
 use Rattle.setup.specs.Outcome.{set_up}
 use Rattle.setup.specs.Fresh.{fresh_memory}
 use Rattle.settings.proofs.Laws.{range-true}
 use Rattle.letters.specs.Made.{letter_of}
 use Rattle.posting.specs.declared.Sent.{Sent}
-use Rattle.posting.specs.declared.Sent.TheVariants.{Done as Sent-done, NotSound as Sent-not-sound, SourceNotBound as Sent-source, DestinationNotBound as Sent-destination, BodyTooLong, TooFewBlocks, QueueFull}
+use Rattle.posting.specs.declared.SendRefusal.{SendRefusal}
+use Rattle.posting.specs.declared.SendRefusal.TheVariants.{NotSound as Sent-not-sound, SourceNotBound as Sent-source, DestinationNotBound as Sent-destination, BodyTooLong, TooFewBlocks, QueueFull}
 use Rattle.send.specs.Outcome.{send}
 use Rattle.receive.specs.declared.Received.{Received}
-use Rattle.receive.specs.declared.Received.TheVariants.{Done as Received-done, NotSound as Received-not-sound, DestinationNotBound as Received-destination, SourceNotBound as Received-source, NoLetter, NoLetterQueueFull, OutTooShort}
+use Rattle.receive.specs.declared.ReceiveRefusal.{ReceiveRefusal}
+use Rattle.receive.specs.declared.ReceiveRefusal.TheVariants.{NotSound as Received-not-sound, DestinationNotBound as Received-destination, SourceNotBound as Received-source, NoLetter, NoLetterQueueFull, OutTooShort}
 use Rattle.receive.specs.Outcome.{Outcome as Received-outcome, receive}
 use Rattle.receive.proofs.Sounds.{refused_first}
 use Rattle.turn.specs.Outcome.{turn}
@@ -126,25 +130,19 @@ module _ (s : Settings) (table : List ℕ) (r : in_range s ≡ true) (ok : right
 
 -- what a set-up answers, and then leaves
 module _ (s : Settings) (table : List ℕ) (p : Past) where
-  pub set_up_kept : (set_up s table p.memory).answer ≡ SetUp-done → Kept (after_set_up (set_up s table p.memory).answer p (set_up s table p.memory).memory)
+  pub set_up_kept : (set_up s table p.memory).answer ≡ Ok tt → Kept (after_set_up (set_up s table p.memory).answer p (set_up s table p.memory).memory)
   unfolding set_up
   set_up_kept e =
       split (in_range s)
       (λ r. rw r (split (right_table table)
       (λ t. rw t (split (eqb (length p.memory) (memory_size s))
       (λ z. rw z (fresh_kept s table r t))
-      (λ z. absurd (apart-size (rw (r, t, z) at e)))))
-      (λ t. absurd (apart-table (rw (r, t) at e)))))
-      (λ r. absurd (apart-range (rw r at e)))
+      (λ z. absurd (apart OtherSize (rw (r, t, z) at e)))))
+      (λ t. absurd (apart WrongTable (rw (r, t) at e)))))
+      (λ r. absurd (apart SettingOutOfRange (rw r at e)))
     where
-      apart-size : OtherSize ≡ SetUp-done → ⊥
-      apart-size q = let z : ◌≡◌ {A = ℕ} 0 1 = cc in omega arith
-
-      apart-table : WrongTable ≡ SetUp-done → ⊥
-      apart-table q = let z : ◌≡◌ {A = ℕ} 0 1 = cc in omega arith
-
-      apart-range : SettingOutOfRange ≡ SetUp-done → ⊥
-      apart-range q = let z : ◌≡◌ {A = ℕ} 0 1 = cc in omega arith
+      apart : (r : SetUpRefusal) → ◌≡◌ {A = Result Unit SetUpRefusal} (Err r) (Ok tt) → ⊥
+      apart r q = let z : ◌≡◌ {A = ℕ} 0 1 = cc in omega arith
 
   set_up_goes : Kept p → Kept (after_set_up (set_up s table p.memory).answer p (set_up s table p.memory).memory)
   unfolding set_up
@@ -158,59 +156,59 @@ module _ (s : Settings) (table : List ℕ) (p : Past) where
       (λ r. rw r (record { safe = k.safe; way = k.way }))
 
 -- ---- whether a send, or a receive, was done
-abbrev sent_sort : Sent → ℕ
-sent_sort (Sent-done n) = 0
-sent_sort Sent-not-sound = 1
-sent_sort Sent-source = 1
-sent_sort Sent-destination = 1
-sent_sort BodyTooLong = 1
-sent_sort TooFewBlocks = 1
-sent_sort QueueFull = 1
+abbrev sent_sort : Result Sent SendRefusal → ℕ
+sent_sort (Ok _) = 0
+sent_sort (Err Sent-not-sound) = 1
+sent_sort (Err Sent-source) = 1
+sent_sort (Err Sent-destination) = 1
+sent_sort (Err BodyTooLong) = 1
+sent_sort (Err TooFewBlocks) = 1
+sent_sort (Err QueueFull) = 1
 
-sent? {ℓ} : {P : Type ℓ} (x : Sent) → ((n : ℕ) → x ≡ Sent-done n → P) → (sent_sort x ≡ 1 → P) → P
-sent? (Sent-done n) f g = f n refl
-sent? Sent-not-sound f g = g refl
-sent? Sent-source f g = g refl
-sent? Sent-destination f g = g refl
-sent? BodyTooLong f g = g refl
-sent? TooFewBlocks f g = g refl
-sent? QueueFull f g = g refl
+sent? {ℓ} : {P : Type ℓ} (x : Result Sent SendRefusal) → ((n : ℕ) → x ≡ Ok (record { blocks = n }) → P) → (sent_sort x ≡ 1 → P) → P
+sent? (Ok sent) f g = f sent.blocks refl
+sent? (Err Sent-not-sound) f g = g refl
+sent? (Err Sent-source) f g = g refl
+sent? (Err Sent-destination) f g = g refl
+sent? (Err BodyTooLong) f g = g refl
+sent? (Err TooFewBlocks) f g = g refl
+sent? (Err QueueFull) f g = g refl
 
-none-accepted : (x : Sent) (w : List ℕ) → sent_sort x ≡ 1 → accepted_by x w ≡ []
-none-accepted (Sent-done n) w e = absurd (omega arith)
-none-accepted Sent-not-sound w e = refl
-none-accepted Sent-source w e = refl
-none-accepted Sent-destination w e = refl
-none-accepted BodyTooLong w e = refl
-none-accepted TooFewBlocks w e = refl
-none-accepted QueueFull w e = refl
+none-accepted : (x : Result Sent SendRefusal) (w : List ℕ) → sent_sort x ≡ 1 → accepted_by x w ≡ []
+none-accepted (Ok _) w e = absurd (omega arith)
+none-accepted (Err Sent-not-sound) w e = refl
+none-accepted (Err Sent-source) w e = refl
+none-accepted (Err Sent-destination) w e = refl
+none-accepted (Err BodyTooLong) w e = refl
+none-accepted (Err TooFewBlocks) w e = refl
+none-accepted (Err QueueFull) w e = refl
 
-abbrev received_sort : Received → ℕ
-received_sort (Received-done a n) = 0
-received_sort Received-not-sound = 1
-received_sort Received-destination = 1
-received_sort Received-source = 1
-received_sort NoLetter = 1
-received_sort NoLetterQueueFull = 1
-received_sort OutTooShort = 1
+abbrev received_sort : Result Received ReceiveRefusal → ℕ
+received_sort (Ok _) = 0
+received_sort (Err Received-not-sound) = 1
+received_sort (Err Received-destination) = 1
+received_sort (Err Received-source) = 1
+received_sort (Err NoLetter) = 1
+received_sort (Err NoLetterQueueFull) = 1
+received_sort (Err OutTooShort) = 1
 
-received? {ℓ} : {P : Type ℓ} (x : Received) → ((a n : ℕ) → x ≡ Received-done a n → P) → (received_sort x ≡ 1 → P) → P
-received? (Received-done a n) f g = f a n refl
-received? Received-not-sound f g = g refl
-received? Received-destination f g = g refl
-received? Received-source f g = g refl
-received? NoLetter f g = g refl
-received? NoLetterQueueFull f g = g refl
-received? OutTooShort f g = g refl
+received? {ℓ} : {P : Type ℓ} (x : Result Received ReceiveRefusal) → ((a n : ℕ) → x ≡ Ok (record { source = a; words = n }) → P) → (received_sort x ≡ 1 → P) → P
+received? (Ok got) f g = f got.source got.words refl
+received? (Err Received-not-sound) f g = g refl
+received? (Err Received-destination) f g = g refl
+received? (Err Received-source) f g = g refl
+received? (Err NoLetter) f g = g refl
+received? (Err NoLetterQueueFull) f g = g refl
+received? (Err OutTooShort) f g = g refl
 
-none-received : (table : List ℕ) (destination : ℕ) (x : Received) (out : List ℕ) → received_sort x ≡ 1 → received_by table destination x out ≡ []
-none-received table destination (Received-done a n) out e = absurd (omega arith)
-none-received table destination Received-not-sound out e = refl
-none-received table destination Received-destination out e = refl
-none-received table destination Received-source out e = refl
-none-received table destination NoLetter out e = refl
-none-received table destination NoLetterQueueFull out e = refl
-none-received table destination OutTooShort out e = refl
+none-received : (table : List ℕ) (destination : ℕ) (x : Result Received ReceiveRefusal) (out : List ℕ) → received_sort x ≡ 1 → received_by table destination x out ≡ []
+none-received table destination (Ok _) out e = absurd (omega arith)
+none-received table destination (Err Received-not-sound) out e = refl
+none-received table destination (Err Received-destination) out e = refl
+none-received table destination (Err Received-source) out e = refl
+none-received table destination (Err NoLetter) out e = refl
+none-received table destination (Err NoLetterQueueFull) out e = refl
+none-received table destination (Err OutTooShort) out e = refl
 
 -- ---- a call that leaves the table, the letters on the way, and what was accepted and received
 quiet : (p p' : Past) → Kept p → sound p'.memory ≡ true → table_in p'.memory ≡ table_in p.memory → p'.accepted ≡ p.accepted → p'.received ≡ p.received
@@ -241,7 +239,7 @@ module _ (p : Past) (k : Kept p) (source destination : ℕ) (body : List ℕ) wh
   abbrev m₁ : List ℕ
   m₁ = (send p.memory source destination body).memory
 
-  abbrev answer₁ : Sent
+  abbrev answer₁ : Result Sent SendRefusal
   answer₁ = (send p.memory source destination body).answer
 
   safe₁ : sound m₁ ≡ true
@@ -251,7 +249,7 @@ module _ (p : Past) (k : Kept p) (source destination : ℕ) (body : List ℕ) wh
   same₁ = (send_fixed m₀ source destination body).table
 
   -- done: the letter is behind those on the way
-  sent-way : (n : ℕ) → answer₁ ≡ Sent-done n → (a b : ℕ) → is_bound t₀ a ≡ true → is_bound t₀ b ≡ true
+  sent-way : (n : ℕ) → answer₁ ≡ Ok (record { blocks = n }) → (a b : ℕ) → is_bound t₀ a ≡ true → is_bound t₀ b ≡ true
       → on_the_way t₀ (machine_of m₁) a b ≡ on_the_way t₀ (machine_of m₀) a b ++ those (between a b) (w₀ ∷ [])
   unfolding letter_of
   sent-way n e a b u v =
@@ -273,7 +271,7 @@ module _ (p : Past) (k : Kept p) (source destination : ℕ) (body : List ℕ) wh
             let y' : is_bound t₀ b ≡ true = rw same₁ at y in
             let t : List ℕ → Bool = between a b in
             let r : List (List ℕ) = those t p.received in
-            ap (λ (z : Sent). those t (p.accepted ++ accepted_by z w₀)) e ∙ those-append t p.accepted (w₀ ∷ [])
+            ap (λ (z : Result Sent SendRefusal). those t (p.accepted ++ accepted_by z w₀)) e ∙ those-append t p.accepted (w₀ ∷ [])
             ∙ ap (λ (l : List (List ℕ)). l ++ those t (w₀ ∷ [])) (k.way a b x' y')
             ∙ append_assoc r (on_the_way t₀ (machine_of m₀) a b) (those t (w₀ ∷ []))
             ∙ ap (λ (l : List (List ℕ)). r ++ l) (sym (sent-way n e a b x' y') ∙ ap (λ (u : List ℕ). on_the_way u (machine_of m₁) a b) (sym same₁));
@@ -296,7 +294,7 @@ module _ (p : Past) (k : Kept p) (destination source : ℕ) (out : List ℕ) whe
   abbrev m₂ : List ℕ
   m₂ = (receive p.memory destination source out).memory
 
-  abbrev answer₂ : Received
+  abbrev answer₂ : Result Received ReceiveRefusal
   answer₂ = (receive p.memory destination source out).answer
 
   abbrev given : List ℕ
@@ -318,12 +316,12 @@ module _ (p : Past) (k : Kept p) (destination source : ℕ) (out : List ℕ) whe
   p₂ = record { memory = m₂; accepted = p.accepted; received = p.received ++ received_by t₂ destination answer₂ given }
 
   -- a receive that is done is one of a bound task
-  bound₂ : (a n : ℕ) → answer₂ ≡ Received-done a n → is_bound t₂ destination ≡ true
+  bound₂ : (a n : ℕ) → answer₂ ≡ Ok (record { source = a; words = n }) → is_bound t₂ destination ≡ true
   bound₂ a n e =
       split (is_bound t₂ destination) (λ b. b)
       (λ b. absurd (let z = ap (λ (o : Received-outcome). received_sort o.answer) (refused_first p.memory destination source out k.safe b) in omega (arith, z, ap received_sort e)))
 
-  module _ (a n : ℕ) (e : (receive p.memory destination source out).answer ≡ Received-done a n) where
+  module _ (a n : ℕ) (e : (receive p.memory destination source out).answer ≡ Ok (record { source = a; words = n })) where
     r : Receives (machine_of p.memory) (machine_of m₂) (node_of t₂ destination) (queue_of t₂ destination) source a n out given
     r = receive-done p.memory destination source out a n e
 
@@ -354,7 +352,7 @@ module _ (p : Past) (k : Kept p) (destination source : ℕ) (out : List ℕ) whe
 
     -- what is handed over is that letter
     handed : received_by t₂ destination answer₂ given ≡ v ∷ []
-    handed = ap (λ (x : Received). received_by t₂ destination x given) e ∙ ap (λ (l : List ℕ). l ∷ []) handed-letter
+    handed = ap (λ (x : Result Received ReceiveRefusal). received_by t₂ destination x given) e ∙ ap (λ (l : List ℕ). l ∷ []) handed-letter
 
     -- its source is a bound task
     source_bound : is_bound t₂ a ≡ true
@@ -447,13 +445,13 @@ kept_lively p k =
     }
 
 -- DEMAND 3: from a successful set-up on, under any calls in any order, refused ones too
-pub demand_3 : (p : Past) (b m s a t : ℕ) (table : List ℕ) → (set_up (settings_of b m s a t) table p.memory).answer ≡ SetUp-done
+pub demand_3 : (p : Past) (b m s a t : ℕ) (table : List ℕ) → (set_up (settings_of b m s a t) table p.memory).answer ≡ Ok tt
     → (cs : List Call) → Holds (after_all (after_call p (SetsUp b m s a t table)) cs)
 unfolding after_call
 demand_3 p b m s a t table e cs =
     kept-holds (after_all (after_call p (SetsUp b m s a t table)) cs) (runs (after_call p (SetsUp b m s a t table)) (set_up_kept (settings_of b m s a t) table p e) cs)
 
-pub lively : (p : Past) (b m s a t : ℕ) (table : List ℕ) → (set_up (settings_of b m s a t) table p.memory).answer ≡ SetUp-done
+pub lively : (p : Past) (b m s a t : ℕ) (table : List ℕ) → (set_up (settings_of b m s a t) table p.memory).answer ≡ Ok tt
     → (cs : List Call) → Lively (after_all (after_call p (SetsUp b m s a t table)) cs)
 unfolding after_call
 lively p b m s a t table e cs =

@@ -1,4 +1,5 @@
 -- THE LIST SHOWS THE LETTERS ON THE WAY: of the records that it writes those of a pair, each read at the node and block it names. Assumes nothing.
+use Rattle.std.specs.Prelude.{Err, Ok, Result}
 use mathlib.Core.Path.{◌≡◌, refl, sym, ap, ap₂, ◌∙◌, subst}
 use mathlib.Core.Bool.{Bool, true, false, cond, ◌&&◌}
 use mathlib.Core.List.{List, [], ◌∷◌, ◌++◌, map, append-nil}
@@ -8,7 +9,7 @@ use lib.Dec.{eqb, leb, ltb}
 use lib.ListN.{length, get_or, drop}
 use borrow.Author.Tests.{eq-eqb, ne_eqb, ltb-true}
 use Rattle.words.specs.Words.{all}
-use Rattle.words.proofs.Lists.{split, same?, and-true, and-false, all_head}
+use Rattle.words.proofs.Lists.{split, same?, and-true, and-false, all_head, same_ok}
 use Rattle.settings.specs.declared.Settings.{Settings}
 use Rattle.layout.specs.Places.{node, task_ids}
 use Rattle.tasks.specs.Table.{node_of, queue_of, is_bound, right_table}
@@ -22,7 +23,9 @@ use Rattle.sound.specs.Sound.{sound}
 use Rattle.sound.proofs.Gives.{gives_table, gives_range}
 use Rattle.sound.proofs.Held.{gives_at, right_parts}
 use Rattle.showing.specs.declared.Shown.{Shown}
-use Rattle.listing.specs.declared.Listed.TheVariants.{Done, OutTooShort}
+use Rattle.listing.specs.declared.Listed.{Listed}
+use Rattle.listing.specs.declared.ListRefusal.{ListRefusal}
+use Rattle.listing.specs.declared.ListRefusal.TheVariants.{OutTooShort}
 use Rattle.showing.specs.List.{handed_over, shown, from_task, from_send, waiting, from_nodes, of_task, of_tasks, listed, laid_out}
 use Rattle.listing.specs.Outcome.{list}
 use Rattle.machine.specs.Machine.{first, words_of}
@@ -258,19 +261,16 @@ module _ (memory : List ℕ) (a b : ℕ) where
     below_256 = ltb-true b task_ids (and-true (ltb b task_ids) _ y).0
 
     -- WHERE THE LIST HAS ROOM, its words show the letters on the way
-    pub list-shows : (out : List ℕ) (n : ℕ) → (list memory out).answer ≡ Done n → shown_in memory a b n (list memory out).out ≡ on_the_way (table_in memory) (machine_of memory) a b
+    pub list-shows : (out : List ℕ) (n : ℕ) → (list memory out).answer ≡ Ok (record { letters = n }) → shown_in memory a b n (list memory out).out ≡ on_the_way (table_in memory) (machine_of memory) a b
     unfolding list onto
     list-shows out n e =
         let xs : List Shown = listed s memory in
         split (leb (length xs * 6) (length out))
         (λ r.
-        let d : Done (length xs) ≡ Done n = rw (ok, r) at e in
-        let z : length xs ≡ n = done_is (length xs) n d in
+        let d : ◌≡◌ {A = Result Listed ListRefusal} (Ok (record { letters = length xs })) (Ok (record { letters = n })) = rw (ok, r) at e in
+        let z : length xs ≡ n = ap (λ (x : Listed). x.letters) (same_ok d) in
         rw (ok, r) (ap (λ (m : ℕ). shown_in memory a b m (laid_out xs ++ drop (length (laid_out xs)) out)) (sym z) ∙ laid-shown xs (drop (length (laid_out xs)) out) ∙ above_own 256 below_256 ∙ picked_own))
         (λ r. absurd (not_done (length xs) n (rw (ok, r) at e)))
       where
-        done_is : (u v : ℕ) → Done u ≡ Done v → u ≡ v
-        done_is u v c = cc
-
-        not_done : (u v : ℕ) → OutTooShort u ≡ Done v → ⊥
+        not_done : (u v : ℕ) → ◌≡◌ {A = Result Listed ListRefusal} (Err (OutTooShort u)) (Ok (record { letters = v })) → ⊥
         not_done u v c = let z : ◌≡◌ {A = ℕ} 0 1 = cc in omega arith

@@ -1,5 +1,6 @@
 -- In a sound memory no call is refused by 1, and the list has room in an out that is long enough. Assumes nothing.
-use mathlib.Core.Path.{◌≡◌, refl, ap}
+use Rattle.std.specs.Prelude.{Err, Ok, Result}
+use mathlib.Core.Path.{◌≡◌, ap}
 use mathlib.Core.Bool.{true, ◌||◌}
 use mathlib.Core.List.{List}
 use Prim.Native.Nat.{ℕ, ◌*◌}
@@ -7,12 +8,10 @@ use native.Mathlib.Omega.{arith}
 use lib.Dec.{eqb, leb}
 use lib.ListN.{length, replicate, length-replicate}
 use borrow.Author.Tests.{le-leb}
-use Rattle.words.proofs.Lists.{split}
+use Rattle.words.proofs.Lists.{split, option?}
 use Rattle.blocks.specs.Chain.{needs}
 use Rattle.blocks.specs.Moves.{enough}
 use Rattle.tasks.specs.Table.{is_bound}
-use Rattle.taking.specs.declared.Found.{Found}
-use Rattle.taking.specs.declared.Found.TheVariants.{At, Nothing}
 use Rattle.sound.specs.Reading.{settings_in, table_in, turn_in}
 use Rattle.sound.specs.Sound.{sound}
 use Rattle.settings.specs.declared.Settings.{Settings}
@@ -21,61 +20,57 @@ use Rattle.taking.specs.Find.{found}
 use Rattle.posting.specs.Post.{has_room, posted}
 use Rattle.posting.specs.declared.Goal.{Goal}
 use Rattle.posting.specs.declared.Sent.{Sent}
-use Rattle.posting.specs.declared.Sent.TheVariants.{Done as Sent-done, NotSound as Sent-not-sound, SourceNotBound, DestinationNotBound, BodyTooLong, TooFewBlocks, QueueFull}
+use Rattle.posting.specs.declared.SendRefusal.{SendRefusal}
+use Rattle.posting.specs.declared.SendRefusal.TheVariants.{NotSound as Sent-not-sound, SourceNotBound, DestinationNotBound, BodyTooLong, TooFewBlocks, QueueFull}
 use Rattle.send.specs.Outcome.{fits, posted_in, delivered, send}
 use Rattle.receive.specs.declared.Received.{Received}
-use Rattle.receive.specs.declared.Received.TheVariants.{Done as Received-done, NotSound as Received-not-sound, DestinationNotBound as Received-destination, SourceNotBound as Received-source, NoLetter, NoLetterQueueFull, OutTooShort as Received-short}
+use Rattle.receive.specs.declared.ReceiveRefusal.{ReceiveRefusal}
+use Rattle.receive.specs.declared.ReceiveRefusal.TheVariants.{NotSound as Received-not-sound, DestinationNotBound as Received-destination, SourceNotBound as Received-source, NoLetter, NoLetterQueueFull, OutTooShort as Received-short}
 use Rattle.receive.specs.Take.{body_of, filled, in_vain, took_at, took}
 use Rattle.receive.specs.Outcome.{collected, receive}
-use Rattle.postman.specs.declared.Stage.{Stage}
-use Rattle.postman.specs.declared.Stage.TheVariants.{Done, Stopped}
-use Rattle.postman.specs.declared.Round.{Round}
 use Rattle.postman.specs.Position.{position_of}
 use Rattle.postman.specs.Round.{at_start}
 use Rattle.stages_keep.specs.Steps.{gone}
 use Rattle.turn.specs.declared.Turned.{Turned}
-use Rattle.turn.specs.declared.Turned.TheVariants.{Finished, Stopped as Turned-stopped, NotSound as Turned-not-sound}
-use Rattle.turn.specs.Outcome.{answered, taken, turn}
+use Rattle.turn.specs.declared.TurnRefusal.{TurnRefusal}
+use Rattle.turn.specs.declared.TurnRefusal.TheVariants.{NotSound as Turned-not-sound}
+use Rattle.turn.specs.Outcome.{taken, turn}
 use Rattle.listing.specs.declared.Listed.{Listed}
-use Rattle.listing.specs.declared.Listed.TheVariants.{Done as Listed-done, NotSound as Listed-not-sound, OutTooShort}
+use Rattle.listing.specs.declared.ListRefusal.{ListRefusal}
+use Rattle.listing.specs.declared.ListRefusal.TheVariants.{NotSound as Listed-not-sound, OutTooShort}
 use Rattle.showing.specs.List.{listed}
 use Rattle.listing.specs.Outcome.{list}
 use Rattle.history.specs.Demand.{NeverStuck, Room}
 
 -- ---- the answers that say 1
-abbrev sent_one : Sent → ℕ
-sent_one (Sent-done n) = 0
-sent_one Sent-not-sound = 1
-sent_one SourceNotBound = 0
-sent_one DestinationNotBound = 0
-sent_one BodyTooLong = 0
-sent_one TooFewBlocks = 0
-sent_one QueueFull = 0
+abbrev sent_one : Result Sent SendRefusal → ℕ
+sent_one (Ok _) = 0
+sent_one (Err Sent-not-sound) = 1
+sent_one (Err SourceNotBound) = 0
+sent_one (Err DestinationNotBound) = 0
+sent_one (Err BodyTooLong) = 0
+sent_one (Err TooFewBlocks) = 0
+sent_one (Err QueueFull) = 0
 
-abbrev received_one : Received → ℕ
-received_one (Received-done a n) = 0
-received_one Received-not-sound = 1
-received_one Received-destination = 0
-received_one Received-source = 0
-received_one NoLetter = 0
-received_one NoLetterQueueFull = 0
-received_one Received-short = 0
+abbrev received_one : Result Received ReceiveRefusal → ℕ
+received_one (Ok _) = 0
+received_one (Err Received-not-sound) = 1
+received_one (Err Received-destination) = 0
+received_one (Err Received-source) = 0
+received_one (Err NoLetter) = 0
+received_one (Err NoLetterQueueFull) = 0
+received_one (Err Received-short) = 0
 
-abbrev turned_one : Turned → ℕ
-turned_one (Finished j l b) = 0
-turned_one (Turned-stopped n j l b) = 0
-turned_one Turned-not-sound = 1
+abbrev turned_one : Result Turned TurnRefusal → ℕ
+turned_one (Ok _) = 0
+turned_one (Err Turned-not-sound) = 1
 
-abbrev listed_one : Listed → ℕ
-listed_one (Listed-done n) = 0
-listed_one Listed-not-sound = 1
-listed_one (OutTooShort n) = 0
+abbrev listed_one : Result Listed ListRefusal → ℕ
+listed_one (Ok _) = 0
+listed_one (Err Listed-not-sound) = 1
+listed_one (Err (OutTooShort n)) = 0
 
 -- what is found, with its equation
-found? {ℓ} : {P : Type ℓ} (x : Found) → ((n : ℕ) → x ≡ At n → P) → (x ≡ Nothing → P) → P
-found? (At n) f g = f n refl
-found? Nothing f g = g refl
-
 module _ (m : List ℕ) (e : sound m ≡ true) where
   -- ---- send
   posted-free : (s : Settings) (l : List ℕ) (g : Goal) (ws : List ℕ) → sent_one (posted s l g ws).answer ≡ 0
@@ -101,7 +96,7 @@ module _ (m : List ℕ) (e : sound m ≡ true) where
   took-free : (s : Settings) (l : List ℕ) (q source : ℕ) (out : List ℕ) → received_one (took s l q source out).answer ≡ 0
   unfolding took took_at in_vain
   took-free s l q source out =
-      found? (found s l (task_at s q) source)
+      option? (found s l (task_at s q) source)
       (λ k x. rw x (split (leb (length (body_of s l q source k)) (length out)) (λ y. rw y) (λ y. rw y)))
       (λ x. rw x (split (filled s l q source) (λ y. rw y) (λ y. rw y)))
 
@@ -116,15 +111,12 @@ module _ (m : List ℕ) (e : sound m ≡ true) where
       (λ x. rw x))
 
   -- ---- turn
-  answered-free : (j : ℕ) (r : Round) (h : Stage) → turned_one (answered j r h) ≡ 0
-  answered-free j r Done = refl
-  answered-free j r (Stopped n) = refl
 
   turn-free : turned_one (turn m).answer ≡ 0
   unfolding turn taken
   turn-free =
       let p = gone (settings_in m) (turn_in m) m (position_of m (turn_in m)) at_start in
-      rw e (answered-free (turn_in m) p.round p.round.how)
+      rw e
 
   -- ---- list
   list-free : (out : List ℕ) → listed_one (list m out).answer ≡ 0

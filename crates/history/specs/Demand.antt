@@ -1,18 +1,18 @@
 -- Demand 3, sentence by sentence.
-use Rattle.std.specs.Prelude.{◌≡◌, true, cond, ◌&&◌, List, [], ◌∷◌, ◌++◌, ℕ, zero, suc, ◌+◌, ◌≤◌, ◌<◌, eqb, get_or, drop}
+use Rattle.std.specs.Prelude.{◌≡◌, true, cond, ◌&&◌, List, [], ◌∷◌, ◌++◌, ℕ, zero, suc, ◌+◌, ◌≤◌, ◌<◌, eqb, get_or, drop, Err, Ok}
 use Rattle.words.specs.Count.{occurs, sum}
 use Rattle.layout.specs.Places.{node}
 use Rattle.layout.specs.Numbers.{list_words}
 use Rattle.tasks.specs.Table.{is_bound}
 use Rattle.sound.specs.Reading.{settings_in, table_in}
 use Rattle.sound.specs.Letters.{words_from}
-use Rattle.listing.specs.declared.Listed.TheVariants.{Done, NotSound as Listed-not-sound}
+use Rattle.listing.specs.declared.ListRefusal.TheVariants.{NotSound as Listed-not-sound}
 use Rattle.listing.specs.Outcome.{list}
-use Rattle.posting.specs.declared.Sent.TheVariants.{NotSound as Sent-not-sound}
+use Rattle.posting.specs.declared.SendRefusal.TheVariants.{NotSound as Sent-not-sound}
 use Rattle.send.specs.Outcome.{send}
-use Rattle.receive.specs.declared.Received.TheVariants.{NotSound as Received-not-sound}
+use Rattle.receive.specs.declared.ReceiveRefusal.TheVariants.{NotSound as Received-not-sound}
 use Rattle.receive.specs.Outcome.{receive}
-use Rattle.turn.specs.declared.Turned.TheVariants.{NotSound as Turned-not-sound}
+use Rattle.turn.specs.declared.TurnRefusal.TheVariants.{NotSound as Turned-not-sound}
 use Rattle.turn.specs.Outcome.{turn}
 use Rattle.machine.specs.Machine.{Machine, many}
 use Rattle.machine.specs.Spelled.{machine_of}
@@ -33,7 +33,7 @@ shown_in memory a b (suc n) out =
 abbrev pub InOrder : Past → Type 0
 InOrder p =
     (a b : ℕ) → is_bound (table_in p.memory) a ≡ true → is_bound (table_in p.memory) b ≡ true
-    → (out : List ℕ) (n : ℕ) → (list p.memory out).answer ≡ Done n
+    → (out : List ℕ) (n : ℕ) → (list p.memory out).answer ≡ Ok (record { letters = n })
     → those (between a b) p.accepted ≡ those (between a b) p.received ++ shown_in p.memory a b n (list p.memory out).out
 
 -- how often block b stands in node i: in the free list, and in the chains of the letters at its places, 0 the held copy, 1-6 the send items, 7-12 the
@@ -47,16 +47,16 @@ EachOnce p = (i b : ℕ) → i < 6 → 1 ≤ b → b ≤ (settings_in p.memory).
 
 -- no call is refused by 1, whatever its arguments; set up never is
 pub record NeverStuck (p : Past) : Type 0 where
-  pub sends : (source destination : ℕ) (body : List ℕ) → (send p.memory source destination body).answer ≡ Sent-not-sound → ⊥
-  pub receives : (destination source : ℕ) (out : List ℕ) → (receive p.memory destination source out).answer ≡ Received-not-sound → ⊥
-  pub turns : (turn p.memory).answer ≡ Turned-not-sound → ⊥
-  pub lists : (out : List ℕ) → (list p.memory out).answer ≡ Listed-not-sound → ⊥
+  pub sends : (source destination : ℕ) (body : List ℕ) → (send p.memory source destination body).answer ≡ Err Sent-not-sound → ⊥
+  pub receives : (destination source : ℕ) (out : List ℕ) → (receive p.memory destination source out).answer ≡ Err Received-not-sound → ⊥
+  pub turns : (turn p.memory).answer ≡ Err Turned-not-sound → ⊥
+  pub lists : (out : List ℕ) → (list p.memory out).answer ≡ Err Listed-not-sound → ⊥
 
 -- an out in which the list has room
 pub record Room (p : Past) : Type 0 where
   pub out : List ℕ
   pub letters : ℕ
-  pub done : (list p.memory out).answer ≡ Done letters
+  pub done : (list p.memory out).answer ≡ Ok (record { letters = letters })
 
 -- DEMAND 3
 pub record Holds (p : Past) : Type 0 where

@@ -1,9 +1,7 @@
 -- What keeps demand 3 from being empty: demand 2's calls accept, receive and carry letters.
-use Rattle.std.specs.Prelude.{◌≡◌, List, [], ◌∷◌, ◌++◌, ℕ, take}
+use Rattle.std.specs.Prelude.{◌≡◌, List, [], ◌∷◌, ◌++◌, ℕ, take, Ok}
 use Rattle.sound.specs.Reading.{table_in, turn_in}
-use Rattle.posting.specs.declared.Sent.TheVariants.{Done as Sent-done}
 use Rattle.send.specs.Outcome.{send}
-use Rattle.receive.specs.declared.Received.TheVariants.{Done as Received-done}
 use Rattle.receive.specs.Outcome.{receive}
 use Rattle.turn.specs.Outcome.{turn}
 use Rattle.machine.specs.Spelled.{machine_of}
@@ -14,7 +12,7 @@ use Rattle.history.specs.Runs.{Sends, Receives, Past, sent_letter, after_call}
 -- 'a send that is not refused accepts exactly one letter', the one that it was asked to send
 abbrev pub AcceptsOne : Past → Type 0
 AcceptsOne p =
-    (source destination : ℕ) (body : List ℕ) (blocks : ℕ) → (send p.memory source destination body).answer ≡ Sent-done blocks
+    (source destination : ℕ) (body : List ℕ) (blocks : ℕ) → (send p.memory source destination body).answer ≡ Ok (record { blocks = blocks })
     → (after_call p (Sends source destination body)).accepted ≡ p.accepted ++ sent_letter (table_in p.memory) source destination body ∷ []
 
 -- 'a receive that answers 0 receives exactly one': the first of the letters on the way from the source that it answers
@@ -27,7 +25,7 @@ pub record TakesOne (p : Past) (destination wanted : ℕ) (out : List ℕ) (sour
 
 abbrev pub ReceivesOne : Past → Type 0
 ReceivesOne p =
-    (destination wanted : ℕ) (out : List ℕ) (source n : ℕ) → (receive p.memory destination wanted out).answer ≡ Received-done source n → TakesOne p destination wanted out source n
+    (destination wanted : ℕ) (out : List ℕ) (source n : ℕ) → (receive p.memory destination wanted out).answer ≡ Ok (record { source = source; words = n }) → TakesOne p destination wanted out source n
 
 -- 'a turn that answers k letters has added exactly k letters to task queues, each the first of its send queue'
 abbrev pub CarriesTold : Past → Type 0

@@ -1,17 +1,19 @@
 -- Runs: any list of calls on one memory, and the letters accepted and received since its last successful set-up. Demand 3.
-use Rattle.std.specs.Prelude.{List, [], ◌∷◌, ◌++◌, ℕ, take}
+use Rattle.std.specs.Prelude.{List, [], ◌∷◌, ◌++◌, ℕ, take, Err, Ok, Result}
 use Rattle.settings.specs.Made.{settings_of}
 use Rattle.sound.specs.Reading.{table_in}
-use Rattle.setup.specs.declared.SetUp.{SetUp}
-use Rattle.setup.specs.declared.SetUp.TheVariants.{Done as SetUp-done, SettingOutOfRange, WrongTable, OtherSize}
+use Rattle.setup.specs.declared.SetUpRefusal.{SetUpRefusal}
+use Rattle.setup.specs.declared.SetUpRefusal.TheVariants.{SettingOutOfRange, WrongTable, OtherSize}
 use Rattle.setup.specs.Outcome.{set_up}
 use Rattle.letters.specs.Made.{letter_of}
 use Rattle.posting.specs.Letter.{header_of}
 use Rattle.posting.specs.declared.Sent.{Sent}
-use Rattle.posting.specs.declared.Sent.TheVariants.{Done as Sent-done, NotSound as Sent-not-sound, SourceNotBound as Sent-source, DestinationNotBound as Sent-destination, BodyTooLong, TooFewBlocks, QueueFull}
+use Rattle.posting.specs.declared.SendRefusal.{SendRefusal}
+use Rattle.posting.specs.declared.SendRefusal.TheVariants.{NotSound as Sent-not-sound, SourceNotBound as Sent-source, DestinationNotBound as Sent-destination, BodyTooLong, TooFewBlocks, QueueFull}
 use Rattle.send.specs.Outcome.{send}
 use Rattle.receive.specs.declared.Received.{Received}
-use Rattle.receive.specs.declared.Received.TheVariants.{Done as Received-done, NotSound as Received-not-sound, DestinationNotBound as Received-destination, SourceNotBound as Received-source, NoLetter, NoLetterQueueFull, OutTooShort}
+use Rattle.receive.specs.declared.ReceiveRefusal.{ReceiveRefusal}
+use Rattle.receive.specs.declared.ReceiveRefusal.TheVariants.{NotSound as Received-not-sound, DestinationNotBound as Received-destination, SourceNotBound as Received-source, NoLetter, NoLetterQueueFull, OutTooShort}
 use Rattle.receive.specs.Outcome.{receive}
 use Rattle.turn.specs.Outcome.{turn}
 
@@ -33,31 +35,31 @@ pub record Past : Type 0 where
 abbrev pub sent_letter : List ℕ → ℕ → ℕ → List ℕ → List ℕ
 sent_letter table source destination body = letter_of (header_of table source destination) body
 
-abbrev pub accepted_by : Sent → List ℕ → List (List ℕ)
-accepted_by (Sent-done blocks) letter = letter ∷ []
-accepted_by Sent-not-sound letter = []
-accepted_by Sent-source letter = []
-accepted_by Sent-destination letter = []
-accepted_by BodyTooLong letter = []
-accepted_by TooFewBlocks letter = []
-accepted_by QueueFull letter = []
+abbrev pub accepted_by : Result Sent SendRefusal → List ℕ → List (List ℕ)
+accepted_by (Ok _) letter = letter ∷ []
+accepted_by (Err Sent-not-sound) letter = []
+accepted_by (Err Sent-source) letter = []
+accepted_by (Err Sent-destination) letter = []
+accepted_by (Err BodyTooLong) letter = []
+accepted_by (Err TooFewBlocks) letter = []
+accepted_by (Err QueueFull) letter = []
 
 -- the letter that a receive hands over: from the source that it answers, with as many words of out as it answers
-abbrev pub received_by : List ℕ → ℕ → Received → List ℕ → List (List ℕ)
-received_by table destination (Received-done source n) out = sent_letter table source destination (take n out) ∷ []
-received_by table destination Received-not-sound out = []
-received_by table destination Received-destination out = []
-received_by table destination Received-source out = []
-received_by table destination NoLetter out = []
-received_by table destination NoLetterQueueFull out = []
-received_by table destination OutTooShort out = []
+abbrev pub received_by : List ℕ → ℕ → Result Received ReceiveRefusal → List ℕ → List (List ℕ)
+received_by table destination (Ok got) out = sent_letter table got.source destination (take got.words out) ∷ []
+received_by table destination (Err Received-not-sound) out = []
+received_by table destination (Err Received-destination) out = []
+received_by table destination (Err Received-source) out = []
+received_by table destination (Err NoLetter) out = []
+received_by table destination (Err NoLetterQueueFull) out = []
+received_by table destination (Err OutTooShort) out = []
 
 -- a successful set-up begins anew; a refused one leaves all
-abbrev pub after_set_up : SetUp → Past → List ℕ → Past
-after_set_up SetUp-done p memory = record { memory = memory; accepted = []; received = [] }
-after_set_up SettingOutOfRange p memory = record { memory = memory; accepted = p.accepted; received = p.received }
-after_set_up WrongTable p memory = record { memory = memory; accepted = p.accepted; received = p.received }
-after_set_up OtherSize p memory = record { memory = memory; accepted = p.accepted; received = p.received }
+abbrev pub after_set_up : Result Unit SetUpRefusal → Past → List ℕ → Past
+after_set_up (Ok _) p memory = record { memory = memory; accepted = []; received = [] }
+after_set_up (Err SettingOutOfRange) p memory = record { memory = memory; accepted = p.accepted; received = p.received }
+after_set_up (Err WrongTable) p memory = record { memory = memory; accepted = p.accepted; received = p.received }
+after_set_up (Err OtherSize) p memory = record { memory = memory; accepted = p.accepted; received = p.received }
 
 -- ONE CALL, by the definitions that the public contracts cite
 unfoldable pub after_call : Past → Call → Past

@@ -12,7 +12,7 @@ use Rattle.layout.specs.Places.{send_at, task_at, node}
 use Rattle.layout.specs.Numbers.{source_task_word, source_node_word, destination_task_word}
 use Rattle.tasks.specs.Table.{node_of, queue_of, is_bound}
 use Rattle.tasks.specs.Seat.{seat_of}
-use Rattle.tasks.specs.declared.Seat.TheVariants.{At, Unbound}
+use Rattle.std.specs.Prelude.{Some, None}
 use Rattle.tasks.proofs.Laws.{told_at, told-unbound, seat_below}
 use Rattle.queues.specs.declared.Kind.{Kind}
 use Rattle.queues.specs.Queue.{send_kind, item_at}
@@ -46,10 +46,10 @@ module _ (s : Settings) (m : List ℕ) (j c : ℕ) (a : Addressed s m j c) where
   queue-small = (seat_below (table_in m) (get_or ws destination_task_word 0) a.table bound).1
 
   module _ {task : ℕ} (et : task ≡ get_or ws destination_task_word 0) where
-    pub never_unbound : seat_of (table_in m) task ≡ Unbound → ⊥
+    pub never_unbound : seat_of (table_in m) task ≡ None → ⊥
     never_unbound e = let f = told-unbound (table_in m) (get_or ws destination_task_word 0) (rw et at e) in false≢true (sym f ∙ bound)
 
-    module _ (i q : ℕ) (e : seat_of (table_in m) task ≡ At i q) where
+    module _ (i q : ℕ) (e : seat_of (table_in m) task ≡ Some (record { node = i; queue = q })) where
       queue_is : q ≡ queue_of (table_in m) (get_or ws destination_task_word 0)
       queue_is = (told_at (table_in m) (get_or ws destination_task_word 0) i q (rw et at e)).1.1
 

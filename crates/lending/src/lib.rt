@@ -21,10 +21,8 @@ ghost use Rattle.lending.specs.Asked.{
   Addressed,
 };
 
-use blocks::Taken;
-use queues::{Appended, Kind};
+use queues::{Full, Kind};
 use settings::Settings;
-use tasks::Seat;
 
 // Word k of the header of the letter that block b begins in node i.
 fn word_in(memory: &[u32], s: Settings, i: usize, b: u32, k: usize) -> u32
@@ -32,9 +30,7 @@ fn word_in(memory: &[u32], s: Settings, i: usize, b: u32, k: usize) -> u32
     requires k_lt_header_words { k < header_words }
     ensures { result ≡ get_or (words_from s (node s memory.now i) b) k 0 }
 {
-    let a = layout::node_at(s, i);
-    let e = a + layout::node_size(s);
-    letters::word_of(&memory[a..e], s, b, k)
+    letters::word_of(layout::stretch(memory, s, i), s, b, k)
 }
 
 // The length that the letter begun by block b in node i tells.
@@ -50,9 +46,7 @@ fn first_in(memory: &[u32], s: Settings, i: usize, k: Kind, q: usize) -> u32
     requires { HasQueue s memory.now i k q }
     ensures { result ≡ item_at k (node s memory.now i) q 0 }
 {
-    let a = layout::node_at(s, i);
-    let e = a + layout::node_size(s);
-    queues::item(&memory[a..e], k, q, 0)
+    queues::item(layout::stretch(memory, s, i), k, q, 0)
 }
 
 // The first item of send queue j on node i.
@@ -72,7 +66,7 @@ pub fn append_in(
     k: Kind,
     q: usize,
     item: u32,
-) -> Appended
+) -> Result<(), Full>
     requires { HasQueue s memory.old i k q }
     ensures { (memory.new ≡ with_node s memory.old i (appended k (node s memory.old i) q item)) × (result ≡ append_answer k (node s memory.old i) q) }
 {
@@ -83,7 +77,13 @@ pub fn append_in(
 }
 
 // Puts an item behind the last of the task queue at word q of node i, closing its gaps first.
-pub fn append_task(memory: &mut [u32], s: Settings, i: usize, q: usize, item: u32) -> Appended
+pub fn append_task(
+    memory: &mut [u32],
+    s: Settings,
+    i: usize,
+    q: usize,
+    item: u32,
+) -> Result<(), Full>
     requires { HasTaskQueue s memory.old i q }
     ensures { (memory.new ≡ with_node s memory.old i (task_appended s (node s memory.old i) q item)) × (result ≡ task_answer s (node s memory.old i) q) }
 {
@@ -106,7 +106,7 @@ pub fn drop_in(memory: &mut [u32], s: Settings, i: usize, k: Kind, q: usize) -> 
 }
 
 // Takes n blocks in node j.
-pub fn take_space(memory: &mut [u32], s: Settings, j: usize, n: usize) -> Taken
+pub fn take_space(memory: &mut [u32], s: Settings, j: usize, n: usize) -> Option<u32>
     requires { MayTake s memory.old j n }
     ensures { (memory.new ≡ with_node s memory.old j (taken s (node s memory.old j) n)) × (result ≡ taken_answer s (node s memory.old j) n) }
 {
@@ -144,8 +144,8 @@ pub fn queue_for(memory: &[u32], s: Settings, j: usize, c: u32) -> usize
     ensures { result ≡ queue_for s j memory.now c }
 {
     let task = word_in(memory, s, j, c, 2);
-    let Seat::At(_, q) = tasks::seat_of(&memory[24..536], task) else {
-        return 0;
+    let Some(seat) = tasks::seat_of(layout::table(memory), task) else {
+        unreachable!();
     };
-    layout::task_at(s, q as usize)
+    layout::task_at(s, seat.queue as usize)
 }

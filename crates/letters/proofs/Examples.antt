@@ -1,4 +1,5 @@
 -- Letters of 5, 6, 7, 8 and 15 words with B = 4, 5 and 8 on a free list out of order, taken, written, read back and given back, as the checker computes them. Assumes nothing.
+use Rattle.std.specs.Prelude.{None, Option, Some}
 use mathlib.Core.Path.{◌≡◌, refl}
 use mathlib.Core.List.{List, [], ◌∷◌, ◌++◌}
 use Prim.Native.Nat.{ℕ, zero, suc, ◌+◌, ◌-◌}
@@ -7,8 +8,6 @@ use Rattle.settings.specs.declared.Settings.{Settings}
 use Rattle.layout.specs.Places.{blocks_at, block_at, node_size}
 use Rattle.blocks.specs.Chain.{needs, chain, after, list, free, text}
 use Rattle.blocks.specs.Moves.{enough, taken, taken_from, taken_answer, given_back}
-use Rattle.blocks.specs.declared.Taken.{Taken}
-use Rattle.blocks.specs.declared.Taken.TheVariants.{First, Short}
 use Rattle.letters.specs.Letter.{word, told, letter, laid, written}
 
 -- six blocks of B words, queues of two
@@ -33,7 +32,7 @@ sample n = 7 ∷ 2 ∷ 52 ∷ 3 ∷ n ∷ body (n - 5)
 -- what is seen on the way
 pub record Seen : Type 0 where
   pub blocks : ℕ
-  pub answer : Taken
+  pub answer : Option ℕ
   pub taken : List ℕ
   pub left : List ℕ
   pub read : List ℕ
@@ -63,7 +62,7 @@ seen B n =
 abbrev expected : ℕ → ℕ → ℕ → Seen
 expected n k behind = record {
   blocks = k;
-  answer = First 3;
+  answer = Some 3;
   taken = take k (3 ∷ 1 ∷ 5 ∷ 2 ∷ 6 ∷ 4 ∷ []);
   left = drop k (3 ∷ 1 ∷ 5 ∷ 2 ∷ 6 ∷ 4 ∷ []);
   read = sample n;
@@ -92,6 +91,6 @@ unfolding node_size
 long = (refl, refl, refl)
 
 -- seven blocks of the six are too many: nothing changes
-pub short : (taken_answer (with 4) (fresh 4) 7 ≡ Short) × (taken (with 4) (fresh 4) 7 ≡ fresh 4)
+pub short : (taken_answer (with 4) (fresh 4) 7 ≡ None) × (taken (with 4) (fresh 4) 7 ≡ fresh 4)
 unfolding enough taken taken_answer list blocks_at block_at
 short = (refl, refl)

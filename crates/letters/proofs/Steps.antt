@@ -1,4 +1,5 @@
 -- What the code of reading and writing does, a block at a time. Assumes nothing.
+use Rattle.std.specs.Prelude.{Option, Some}
 use mathlib.Core.Path.{◌≡◌, refl, sym, ap, ap₂, ◌∙◌}
 use mathlib.Core.List.{List, ◌++◌}
 use Prim.Native.Nat.{ℕ, zero, suc, ◌+◌, ◌-◌, ◌*◌, ◌/◌, ◌%◌, ◌≤◌, ◌<◌, min}
@@ -6,7 +7,6 @@ use native.Mathlib.Nat.{suc-mul, zero-mul, add-div_right, mod-lt, div-eq_of_lt, 
 use native.Mathlib.Omega.{arith}
 use lib.ListN.{length, get_or, take, drop}
 use lib.Seq.{sets, length-sets, take_at, drop_at, drop-drop, drop-append-le, drop-append-add}
-use borrow.Rule.Slice.PartMut.{post_of, Post-is}
 use Rattle.words.specs.Words.{part}
 use Rattle.words.proofs.Parts.{length_part, take-least, drop-take, take-join}
 use Rattle.settings.specs.declared.Settings.{Settings}
@@ -19,7 +19,6 @@ use Rattle.blocks.specs.Asked.{Block, Walks}
 use Rattle.blocks.proofs.Steps.{is_block_lem, down, link-counted, chain_step, within_step, last_in}
 use Rattle.reading.specs.Read.{link_from, step_at}
 use Rattle.reading.specs.declared.Step.{Step}
-use Rattle.reading.specs.declared.Step.TheVariants.{Words}
 use Rattle.reading.proofs.Laws.{step_words}
 use Rattle.letters.specs.Letter.{onto, word, letter, piece, laid}
 use Rattle.letters.specs.Asked.{Lies}
@@ -55,9 +54,9 @@ module _ (s : Settings) (node : List ℕ) (st : Stretch s node) (b : ℕ) (low :
         let w = st.range.b.low in
         rw piece_is (sym (length_part node a (a + n) (omega arith) (omega arith) ∙ omega arith))
 
-    pub piece-got : (out p : List ℕ) → p ≡ part node a (a + n) → p ++ post_of 0 (n - 0) out ≡ onto (piece s node b at len) out
+    pub piece-got : (out p : List ℕ) → p ≡ part node a (a + n) → p ++ drop n out ≡ onto (piece s node b at len) out
     unfolding onto
-    piece-got out p q = rw (← piece-long, piece_is, q, Post-is 0 n out (omega arith)) refl
+    piece-got out p q = rw (← piece-long, piece_is, q) refl
 
 -- the blocks from b on, `owed` of them, have so many words
 pub record Covers (s : Settings) (stretch : List ℕ) (owed b words : ℕ) : Type 0 where
@@ -163,8 +162,8 @@ pub record Stepped (s : Settings) (stretch : List ℕ) (owed b at left k next : 
   pub carries : k ≡ min left (s.b - 1 - at)
   pub follows : next ≡ link s stretch b
 
-pub stepped : (s : Settings) (stretch : List ℕ) (owed b at left first k next : ℕ) (r : Step) → Covers s stretch owed b (at + left) → first ≡ block_at s 1
-    → r ≡ step_at stretch b left at (first - 1) (s.b - 1) → r ≡ Words k next → Stepped s stretch owed b at left k next
+pub stepped : (s : Settings) (stretch : List ℕ) (owed b at left first k next : ℕ) (r : Option Step) → Covers s stretch owed b (at + left) → first ≡ block_at s 1
+    → r ≡ step_at stretch b left at (first - 1) (s.b - 1) → r ≡ Some (record { words = k; next = next }) → Stepped s stretch owed b at left k next
 stepped s stretch owed b at left first k next r c ef er e =
     let w = step_words stretch b left at (first - 1) (s.b - 1) k next (sym er ∙ e) in
     let h = w.0 in

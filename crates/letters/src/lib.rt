@@ -1,7 +1,7 @@
 // Letters in their chains of blocks: read and written.
 #![tactic(auto)]
 
-ghost use Rattle.std.specs.Prelude.{◌≡◌, ◌+◌, ◌-◌, min, length, get_or, take, drop};
+ghost use Rattle.std.specs.Prelude.{◌≡◌, ◌+◌, ◌-◌, length, get_or, take, drop};
 ghost use Rattle.std.proofs.lemmas.List.Edits.{sets};
 ghost use Rattle.layout.specs.Places.{block_at};
 ghost use Rattle.layout.specs.Numbers.{header_words};
@@ -10,7 +10,6 @@ ghost use Rattle.letters.specs.Letter.{onto, word, told, letter, piece, written}
 ghost use Rattle.letters.specs.Made.{letter_of};
 ghost use Rattle.letters.specs.Asked.{Lies, Carries, HasWord};
 
-use reading::Step;
 use settings::Settings;
 
 // Word k of the letter that block b begins.
@@ -32,13 +31,6 @@ pub fn told_length(node: &[u32], s: Settings, b: u32) -> u32
     word_of(node, s, b, 4)
 }
 
-// The lesser of two counts.
-pub fn fewer(a: usize, b: usize) -> usize
-    ensures { result ≡ min a b }
-{
-    if a < b { a } else { b }
-}
-
 // The words of block b from word `at` on, as many as `out` has room for; how many they are.
 pub fn read_block(node: &[u32], s: Settings, b: u32, at: usize, out: &mut [u32]) -> usize
     requires { Carries s node.now b at }
@@ -46,10 +38,9 @@ pub fn read_block(node: &[u32], s: Settings, b: u32, at: usize, out: &mut [u32])
     ensures got { out.new ≡ onto (piece s node.now b at (length out.old)) out.old }
 {
     let left = s.b - 1 - at;
-    let n = fewer(out.len(), left);
+    let n = out.len().min(left);
     let a = layout::block_at(s, b as usize) + at;
-    let e = a + n;
-    words::copy(&mut out[0..n], &node[a..e]);
+    out[..n].copy_from_slice(&node[a..a + n]);
     n
 }
 
@@ -64,30 +55,25 @@ pub fn read(node: &[u32], s: Settings, b: u32, at: usize, out: &mut [u32])
     let mut block = b;
     let mut skip = at;
     let mut done = 0;
+    // A turn reads as many words as its block carries, none where the block is passed over: nothing that a `for` counts.
     while done < end {
-        let Step::Words(k, next) = reading::first(
-            node,
-            block,
-            end - done,
-            skip,
-            before as u32,
-            room as u32,
-        ) else {
+        let Some(step) = reading::first(node, block, end - done, skip, before as u32, room as u32)
+        else {
             return;
         };
-        if k == 0 {
+        if step.words == 0 {
             skip -= room;
         } else {
             read_block(node, s, block, skip, &mut out[done..end]);
             skip = 0;
-            done += k;
+            done += step.words;
         }
-        block = next;
+        block = step.next;
     }
 }
 
 // The two tasks of a letter, each with its node.
-#[derive(Clone, Copy)]
+#[derive(Clone, Copy, Debug, PartialEq, Eq)]
 pub struct Header {
     pub source: u32,
     pub from: u32,
@@ -117,12 +103,10 @@ fn write_block(node: &mut [u32], s: Settings, b: u32, h: Header, body: &[u32], k
     ensures { node.new ≡ sets node.old (block_at s b) (take (s.b - 1) (drop k (letter_of h body.now))) }
 {
     let left = 5 + body.len() - k;
-    let n = fewer(left, s.b - 1);
+    let n = left.min(s.b - 1);
     let a = layout::block_at(s, b as usize);
-    let mut i = 0;
-    while i < n {
+    for i in 0..n {
         node[a + i] = letter_word(h, body, k + i);
-        i += 1;
     }
 }
 
@@ -131,14 +115,13 @@ pub fn write(node: &mut [u32], s: Settings, b: u32, h: Header, body: &[u32])
     requires { Lies s node.old (header_words + length body.now) b }
     ensures { node.new ≡ written s node.old b (letter_of h body.now) }
 {
-    let mut owed = blocks::needs_of(s, 5 + body.len());
+    let owed = blocks::needs_of(s, 5 + body.len());
     let mut block = b;
     let mut k = 0;
-    while 0 < owed {
+    for _ in 0..owed {
         let next = blocks::link_of(node, s, block);
         write_block(node, s, block, h, body, k);
         block = next;
         k += s.b - 1;
-        owed -= 1;
     }
 }

@@ -1,5 +1,5 @@
 -- The tasks' numbers of letters added up, one task after the other. Assumes nothing.
-use mathlib.Core.Path.{◌≡◌, refl, ap, ap₂, ◌∙◌}
+use mathlib.Core.Path.{◌≡◌, refl, ap₂, ◌∙◌}
 use mathlib.Core.List.{List}
 use Prim.Native.Nat.{ℕ, suc, ◌+◌, ◌≤◌, ◌<◌}
 use native.Mathlib.Numerals.{add-one}
@@ -9,7 +9,6 @@ use lib.Seq.{get_or-set_same, get_or-set_other}
 use Rattle.words.specs.Count.{sum}
 use Rattle.words.proofs.Lists.{same?}
 use Rattle.layout.specs.Places.{task_ids}
-use Rattle.listing.specs.Asked.{Ranked}
 use Rattle.listing.proofs.Orders.{below, climbs}
 
 module _ (letters : ℕ → ℕ) where
@@ -50,6 +49,3 @@ module _ (letters : ℕ → ℕ) where
     -- the number of letters so far, with the next task's, is no more than that of all
     pub adding_few : task < task_ids → n + letters task ≤ sum task_ids letters
     adding_few h = omega (arith, a.total, sum-suc task, climbs (λ n. sum n letters) (λ n. omega (arith, sum-suc n)) (suc task) task_ids (omega arith))
-
-    pub adding_all : task ≡ task_ids → Ranked letters ranks n
-    adding_all e = record { long = a.long; each = λ t h. a.done t (omega arith); all = a.total ∙ ap (λ (k : ℕ). sum k letters) e }

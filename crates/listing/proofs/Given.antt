@@ -17,7 +17,7 @@ use Rattle.layout.proofs.NodeRows.{by-send}
 use Rattle.tasks.specs.Table.{node_of, is_bound, right_table}
 use Rattle.tasks.proofs.Laws.{told_at, seat_below}
 use Rattle.tasks.specs.Seat.{seat_of}
-use Rattle.tasks.specs.declared.Seat.TheVariants.{At}
+use Rattle.std.specs.Prelude.{Some}
 use Rattle.queues.specs.declared.Kind.{Kind}
 use Rattle.queues.specs.Queue.{send_kind, task_kind, items, item_at, Queue}
 use Rattle.queues.proofs.Views.{length-contents, contents_item}
@@ -63,7 +63,7 @@ unfolding shown
 shown_for s memory task place i b x e h = rw e h
 
 -- a task that the answer seats sits on a node and a queue
-pub told-seat : (t : List ℕ) → right_table t ≡ true → (id i q : ℕ) → seat_of t id ≡ At i q → (i < nodes) × (q < task_queues)
+pub told-seat : (t : List ℕ) → right_table t ≡ true → (id i q : ℕ) → seat_of t id ≡ Some (record { node = i; queue = q }) → (i < nodes) × (q < task_queues)
 told-seat t r id i q e = let b = told_at t id i q e in rw (b.1.0, b.1.1) (seat_below t id r b.0)
 
 -- ---- a sound memory and its settings

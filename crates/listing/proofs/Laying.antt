@@ -1,30 +1,28 @@
 -- Letters laid: six words each, and one letter in out, with room for it and with none. Assumes nothing.
-use mathlib.Core.Path.{◌≡◌, refl, ap}
-use mathlib.Core.List.{List, [], ◌∷◌, ◌++◌}
-use Prim.Native.Nat.{ℕ, suc, ◌+◌, ◌*◌, ◌≤◌, ◌<◌}
+use mathlib.Core.Path.{◌≡◌, refl, sym, ap, ◌∙◌}
+use mathlib.Core.List.{List, [], ◌∷◌, ◌++◌, append_assoc}
+use Prim.Native.Nat.{ℕ, ◌+◌, ◌-◌, ◌*◌, ◌≤◌, ◌<◌}
 use native.Mathlib.Omega.{arith}
 use lib.Dec.{leb}
-use lib.ListN.{length, set}
-use lib.Seq.{sets, length-sets}
+use lib.ListN.{length, take, drop}
+use lib.Seq.{sets, sets-eq, length-sets}
+use borrow.Rule.Slice.PartMut.{put_mid}
 use borrow.Author.Tests.{le-leb, lt-leb}
 use Rattle.words.proofs.Lists.{both}
+use Rattle.words.proofs.Parts.{back}
 use Rattle.layout.specs.Numbers.{list_words}
 use Rattle.showing.specs.declared.Shown.{Shown}
 use Rattle.showing.specs.List.{laid_out}
 use Rattle.listing.specs.Asked.{laid_at}
 
--- six words stored one behind the other are a letter laid
-pub six : (x : Shown) (l : List ℕ) (a : ℕ)
-    → set (set (set (set (set (set l a x.destination) (a + 1) x.source) (a + 2) x.place) (a + 3) x.holder) (a + 4) x.block) (a + 5) x.body
-    ≡ sets l a (laid_out (x ∷ []))
+-- six words put in the place of those that stood there are a letter laid
+pub six : (x : Shown) (l : List ℕ) (a : ℕ) (p : List ℕ) → p ≡ x.destination ∷ x.source ∷ x.place ∷ x.holder ∷ x.block ∷ x.body ∷ [] → a + list_words ≤ length l
+    → put_mid a (a + list_words - a) l p ≡ sets l a (laid_out (x ∷ []))
 unfolding laid_out
-six x l a =
-    let q₁ : a + 1 ≡ suc a = omega arith in
-    let q₂ : a + 2 ≡ suc (suc a) = omega arith in
-    let q₃ : a + 3 ≡ suc (suc (suc a)) = omega arith in
-    let q₄ : a + 4 ≡ suc (suc (suc (suc a))) = omega arith in
-    let q₅ : a + 5 ≡ suc (suc (suc (suc (suc a)))) = omega arith in
-    rw (q₁, q₂, q₃, q₄, q₅)
+six x l a p e h =
+    let w : List ℕ = x.destination ∷ x.source ∷ x.place ∷ x.holder ∷ x.block ∷ x.body ∷ [] in
+    let q : sets l a w ≡ take a l ++ (w ++ drop (a + list_words) l) = sets-eq w l a h ∙ append_assoc (take a l) w (drop (a + list_words) l) in
+    back a (a + list_words) l (omega arith) e ∙ sym q
 
 -- ---- lists of letters as words
 pub laid-append : (xs ys : List Shown) → laid_out (xs ++ ys) ≡ laid_out xs ++ laid_out ys

@@ -1,4 +1,5 @@
 -- The outcome of a list: of a memory that is not sound, and of a sound one by whether out has room. Assumes nothing.
+use Rattle.std.specs.Prelude.{Err, Ok, Result}
 use mathlib.Core.Path.{◌≡◌, refl, ap, ◌∙◌}
 use mathlib.Core.Bool.{true, false}
 use mathlib.Core.List.{List, [], ◌∷◌, ◌++◌}
@@ -18,7 +19,8 @@ use Rattle.sound.specs.Sound.{sound}
 use Rattle.showing.specs.declared.Shown.{Shown}
 use Rattle.showing.specs.List.{listed, laid_out}
 use Rattle.listing.specs.declared.Listed.{Listed}
-use Rattle.listing.specs.declared.Listed.TheVariants.{Done, NotSound, OutTooShort}
+use Rattle.listing.specs.declared.ListRefusal.{ListRefusal}
+use Rattle.listing.specs.declared.ListRefusal.TheVariants.{NotSound, OutTooShort}
 use Rattle.listing.specs.Asked.{Asked, Rows, placed, Low, every_letter, numbers, Ranked}
 use Rattle.listing.specs.Outcome.{Outcome, list}
 use Rattle.listing.proofs.Given.{asked-long}
@@ -27,11 +29,11 @@ use Rattle.listing.proofs.Placing.{rows, length_for, so_long, so_ranked, so_rank
 use Rattle.listing.proofs.Spread.{sorted, spread, spread_none, all_stand}
 use Rattle.listing.proofs.ByTask.{sorted_tasks, ids_all}
 
-abbrev leaving : Listed → List ℕ → Outcome
+abbrev leaving : Result Listed ListRefusal → List ℕ → Outcome
 leaving a l = record { answer = a; out = l }
 
 -- a memory that is not sound is refused, and nothing changes
-pub not_sound_lem : (memory out : List ℕ) → sound memory ≡ false → leaving NotSound out ≡ list memory out
+pub not_sound_lem : (memory out : List ℕ) → sound memory ≡ false → leaving (Err NotSound) out ≡ list memory out
 unfolding list
 not_sound_lem memory out e = rw e
 
@@ -101,7 +103,7 @@ module _ (s : Settings) (memory : List ℕ) (e : sound memory ≡ true) (q : s �
       total : r ≡ length xs
       total = ranked.all ∙ sum_all task_ids (omega arith) ∙ ap length (sorted_tasks s memory a task_ids (omega arith))
 
-      pub out_short : (out : List ℕ) → length (l ++ out) < r * list_words → leaving (OutTooShort r) (l ++ out) ≡ list memory out
+      pub out_short : (out : List ℕ) → length (l ++ out) < r * list_words → leaving (Err (OutTooShort r)) (l ++ out) ≡ list memory out
       unfolding list
       out_short out g =
           let d : length out < length xs * list_words = rw (same out, total) at g in
@@ -130,7 +132,7 @@ module _ (s : Settings) (memory : List ℕ) (e : sound memory ≡ true) (q : s �
             ∙ all_stand all out room (placed all (rows ranks out)) (spread all out room all [] (rows ranks out) refl (ids_all s memory a) (spread_none all out room ranks ranked.long each))
             ∙ ap (λ (ys : List Shown). onto (laid_out ys) out) w
 
-        pub out-done : r * list_words ≤ length (l ++ out) → leaving (Done r) last ≡ list memory out
+        pub out-done : r * list_words ≤ length (l ++ out) → leaving (Ok (record { letters = r })) last ≡ list memory out
         unfolding list
         out-done g =
             let d : length xs * list_words ≤ length out = rw (same out, total) at g in

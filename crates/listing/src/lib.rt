@@ -1,7 +1,7 @@
 // List: the call that shows every letter on its way.
 #![tactic(auto)]
 
-ghost use Rattle.std.specs.Prelude.{◌≡◌, true, [], ◌∷◌, ◌*◌, ◌+◌, ◌≤◌, ◌<◌, length};
+ghost use Rattle.std.specs.Prelude.{◌≡◌, true, Ok, Err, [], ◌∷◌, ◌*◌, ◌+◌, ◌≤◌, ◌<◌, length};
 ghost use Rattle.words.specs.Count.{sum};
 ghost use Rattle.layout.specs.Places.{nodes, task_ids, task_queues};
 ghost use Rattle.queues.specs.Items.{live};
@@ -14,14 +14,49 @@ ghost use Rattle.listing.specs.Outcome.{told, list};
 use answers::Answer;
 use settings::Settings;
 use showing::Shown;
-use tasks::Seat;
 
-// What a list answers: the number of letters, or why not.
-#[derive(Clone, Copy)]
-pub enum Listed {
-    Done(u32),
+// What a list that is done answers: the number of letters.
+#[derive(Clone, Copy, Debug, PartialEq, Eq)]
+pub struct Listed {
+    pub letters: u32,
+}
+
+// Why a list was refused; the number of letters where out has no room for them.
+#[derive(Clone, Copy, Debug, PartialEq, Eq)]
+pub enum ListRefusal {
     NotSound,
     OutTooShort(u32),
+}
+
+// The number of letters.
+impl From<Listed> for Answer {
+    ghost from_gives = { λ listed a. a ≡ told (Ok listed) };
+
+    fn from(listed: Listed) -> Answer {
+        Answer {
+            number: 0,
+            first: listed.letters,
+            second: 0,
+            third: 0,
+        }
+    }
+}
+
+// The number of each refusal, with the number of letters where out has no room for them.
+impl From<ListRefusal> for Answer {
+    ghost from_gives = { λ refusal a. a ≡ told (Err refusal) };
+
+    fn from(refusal: ListRefusal) -> Answer {
+        match refusal {
+            ListRefusal::NotSound => answers::bare(1),
+            ListRefusal::OutTooShort(letters) => Answer {
+                number: 11,
+                first: letters,
+                second: 0,
+                third: 0,
+            },
+        }
+    }
 }
 
 // The six words of a letter behind n letters in out, where out has room for them.
@@ -30,12 +65,8 @@ fn lay(out: &mut [u32], n: u32, x: Shown)
 {
     let at = n as usize * 6;
     if at + 6 <= out.len() {
-        out[at] = x.destination;
-        out[at + 1] = x.source;
-        out[at + 2] = x.place;
-        out[at + 3] = x.holder;
-        out[at + 4] = x.block;
-        out[at + 5] = x.body;
+        let words = [x.destination, x.source, x.place, x.holder, x.block, x.body];
+        out[at..at + 6].copy_from_slice(&words);
     }
 }
 
@@ -70,14 +101,12 @@ fn list_task_queue(
     let k = queues::task_kind(s);
     let at = layout::task_at(s, q as usize);
     let count = showing::count_in(memory, s, i, k, at);
-    let mut c = 0;
-    while c < count {
+    for c in 0..count {
         let b = showing::item_in(memory, s, i, k, at, c);
         if b != 0 {
             let x = showing::shown_at(memory, s, task, 1, i, b);
             list_letter(x, ranks, out);
         }
-        c += 1;
     }
 }
 
@@ -88,10 +117,10 @@ fn list_task(memory: &[u32], s: Settings, task: u32, ranks: &mut [u32; 256], out
     requires low { Low ranks.old 255 }
     ensures { record { ranks = ranks.new; out = out.new } ≡ placed (kept_of s memory.now task) (record { ranks = ranks.old; out = out.old }) }
 {
-    let Seat::At(i, q) = tasks::seat_of(&memory[24..536], task) else {
+    let Some(seat) = tasks::seat_of(layout::table(memory), task) else {
         return;
     };
-    list_task_queue(memory, s, task, i, q, ranks, out);
+    list_task_queue(memory, s, task, seat.node, seat.queue, ranks, out);
 }
 
 // The letters of all tasks' queues, task by task.
@@ -100,10 +129,8 @@ fn list_tasks(memory: &[u32], s: Settings, ranks: &mut [u32; 256], out: &mut [u3
     requires low { Low ranks.old (task_ids * 255) }
     ensures { record { ranks = ranks.new; out = out.new } ≡ placed (kept_below s memory.now task_ids) (record { ranks = ranks.old; out = out.old }) }
 {
-    let mut task = 0;
-    while task < 256 {
+    for task in 0..256 {
         list_task(memory, s, task, ranks, out);
-        task += 1;
     }
 }
 
@@ -125,13 +152,11 @@ fn list_send_queue(
     let at = layout::send_at(s, i as usize);
     let count = showing::count_in(memory, s, j, k, at);
     let first = showing::left_out(memory, i, j);
-    let mut c = first;
-    while c < count {
+    for c in first..count {
         let b = showing::item_in(memory, s, j, k, at, c);
         let task = showing::word_in(memory, s, j, b, 2);
         let x = showing::shown_at(memory, s, task, 2, j, b);
         list_letter(x, ranks, out);
-        c += 1;
     }
 }
 
@@ -141,10 +166,8 @@ fn list_nodes(memory: &[u32], s: Settings, ranks: &mut [u32; 256], out: &mut [u3
     requires low { Low ranks.old (nodes * nodes * 255) }
     ensures { record { ranks = ranks.new; out = out.new } ≡ placed (sent_below s memory.now (nodes * nodes)) (record { ranks = ranks.old; out = out.old }) }
 {
-    let mut c = 0;
-    while c < 36 {
+    for c in 0..36 {
         list_send_queue(memory, s, c / 6, c % 6, ranks, out);
-        c += 1;
     }
 }
 
@@ -165,18 +188,16 @@ fn add_up(ranks: &mut [u32; 256]) -> u32
     ensures { Ranked (numbers ranks.old) ranks.new result }
 {
     let mut n = 0;
-    let mut t = 0;
-    while t < 256 {
-        let letters = ranks[t];
-        ranks[t] = n;
+    for rank in ranks.iter_mut() {
+        let letters = *rank;
+        *rank = n;
         n += letters;
-        t += 1;
     }
     n
 }
 
 // List, of a sound memory: a walk with no room lays nothing and counts each task's letters; the same walk then lays each at its place.
-fn list_sound(memory: &[u32], out: &mut [u32]) -> Listed
+fn list_sound(memory: &[u32], out: &mut [u32]) -> Result<Listed, ListRefusal>
     requires { sound memory.now ≡ true }
     ensures { record { answer = result; out = out.new } ≡ list memory.now out.old }
 {
@@ -185,39 +206,18 @@ fn list_sound(memory: &[u32], out: &mut [u32]) -> Listed
     list_letters(memory, s, &mut ranks, &mut out[0..0]);
     let letters = add_up(&mut ranks);
     if out.len() < letters as usize * 6 {
-        return Listed::OutTooShort(letters);
+        return Err(ListRefusal::OutTooShort(letters));
     }
     list_letters(memory, s, &mut ranks, out);
-    Listed::Done(letters)
-}
-
-// The answer's number and values.
-pub fn number_of(answer: Listed) -> Answer
-    ensures { result ≡ told answer }
-{
-    match answer {
-        Listed::Done(letters) => Answer {
-            number: 0,
-            first: letters,
-            second: 0,
-            third: 0,
-        },
-        Listed::NotSound => answers::bare(1),
-        Listed::OutTooShort(letters) => Answer {
-            number: 11,
-            first: letters,
-            second: 0,
-            third: 0,
-        },
-    }
+    Ok(Listed { letters })
 }
 
 // List, for any memory and any out.
-pub fn list(memory: &[u32], out: &mut [u32]) -> Listed
+pub fn list(memory: &[u32], out: &mut [u32]) -> Result<Listed, ListRefusal>
     ensures { record { answer = result; out = out.new } ≡ list memory.now out.old }
 {
     if !soundness::is_sound(memory) {
-        return Listed::NotSound;
+        return Err(ListRefusal::NotSound);
     }
     list_sound(memory, out)
 }

@@ -3,7 +3,8 @@ use Rattle.std.specs.Prelude.{◌≡◌, List, ℕ}
 use Rattle.settings.specs.Made.{settings_of}
 use Rattle.answers.specs.declared.Answer.{Answer}
 use Rattle.setup.specs.Outcome.{set_up, told as told_set_up}
-use Rattle.send.specs.Outcome.{send, told as told_sent}
+use Rattle.posting.specs.Told.{told as told_sent}
+use Rattle.send.specs.Outcome.{send}
 use Rattle.receive.specs.Outcome.{receive, told as told_received}
 use Rattle.turn.specs.Outcome.{turn, told as told_turned}
 use Rattle.listing.specs.Outcome.{list, told as told_listed}

@@ -1,4 +1,4 @@
-// The door for C: the five calls of mail, as include/mail.h declares them.
+// The door for C: the five calls of mail, as include/mail.h declares them; C needs its own exports beside mail's functions.
 #![tactic(auto)]
 
 ghost use Rattle.mail.specs.Door.{SetsUp, Sends, Receives, Turns, Lists};

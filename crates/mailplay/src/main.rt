@@ -1,335 +1,250 @@
 // Plays a script of calls from standard input and prints a line for each call.
 #![tactic(auto)]
 
-ghost use Rattle.std.specs.Prelude.{◌≡◌, ◌≤◌, ◌<◌, length, IfOk};
-ghost use Rattle.mailplay.specs.Held.{Fits};
+ghost use Rattle.std.specs.Prelude.{◌≡◌, ◌≤◌, length, IfOk};
+ghost use Rattle.mailplay.specs.declared.TheConstants.{MEMORY_WORDS, TABLE_WORDS, PAPER_WORDS};
 
-use script::Read;
+use answers::Answer;
+use script::ScriptError;
 use std::io;
 
-// How many words of the memory and of the table are in use, and whether to go on.
+// The most words of a script's memory.
+const MEMORY_WORDS: usize = 512180;
+
+// The most words of its task table.
+const TABLE_WORDS: usize = 1024;
+
+// The most words of the out of a list.
+const PAPER_WORDS: usize = 40000;
+
+// The most words of a body, or of the out of a receive.
+const BODY_WORDS: usize = 2048;
+
+// The kinds of a script: five calls, and three ways to change what they are played on.
 #[derive(Clone, Copy)]
-pub struct Held {
-    pub memory: usize,
-    pub table: usize,
-    pub on: bool,
+enum Kind {
+    SetUp,
+    Send,
+    Receive,
+    Turn,
+    List,
+    Memory,
+    Table,
+    Word,
 }
 
-// A bad script ends the run.
-fn bad(to: &impl Print, held: Held) -> io::Result<Held>
-    requires { Fits held }
-    ensures { IfOk result (λ h. Fits h) }
-{
-    script::print_bad(to)?;
-    Ok(ended(held))
-}
+impl TryFrom<u32> for Kind {
+    type Error = ScriptError;
 
-fn ended(held: Held) -> Held
-    requires { Fits held }
-    ensures { Fits result }
-{
-    Held {
-        memory: held.memory,
-        table: held.table,
-        on: false,
+    fn try_from(number: u32) -> Result<Kind, ScriptError> {
+        match number {
+            1 => Ok(Kind::SetUp),
+            2 => Ok(Kind::Send),
+            3 => Ok(Kind::Receive),
+            4 => Ok(Kind::Turn),
+            5 => Ok(Kind::List),
+            6 => Ok(Kind::Memory),
+            7 => Ok(Kind::Table),
+            8 => Ok(Kind::Word),
+            _ => Err(ScriptError::Bad),
+        }
     }
 }
 
-// Kind 1: set up.
-fn play_set_up(
-    to: &impl Print,
-    memory: &mut [u32],
-    table: &[u32],
-    held: Held,
-    words: [u32; 5],
-) -> io::Result<Held>
-    requires fits { Fits held }
-    requires memory_len { length memory.old ≡ 512180 }
-    requires table_len { length table.now ≡ 1024 }
-    ensures { IfOk result (λ h. Fits h) }
-{
-    let m = held.memory;
-    let t = held.table;
-    let answer = setup::set_up(
-        words[0],
-        words[1],
-        words[2],
-        words[3],
-        words[4],
-        &table[0..t],
-        &mut memory[0..m],
-    );
-    script::print_answer(to, setup::number_of(answer))?;
-    script::print_number(to, script::sum(&memory[0..m]), b" 0\n")?;
-    Ok(held)
-}
-
-// Kind 2: send.
-fn play_send(
-    to: &impl Print,
-    memory: &mut [u32],
-    paper: &mut [u32],
-    held: Held,
-    words: [u32; 5],
-) -> io::Result<Held>
-    requires fits { Fits held }
-    requires memory_len { length memory.old ≡ 512180 }
-    requires paper_len { length paper.old ≡ 40000 }
-    ensures { IfOk result (λ h. Fits h) }
-{
-    let m = held.memory;
-    let n = words[2] as usize;
-    if 2048 < n {
-        return bad(to, held);
+impl Kind {
+    // How many arguments it has; 5 is the most.
+    fn arguments(self) -> usize
+        ensures { result ≤ 5 }
+    {
+        match self {
+            Kind::SetUp => 5,
+            Kind::Send | Kind::Receive => 4,
+            Kind::Turn => 0,
+            Kind::List | Kind::Memory | Kind::Word => 2,
+            Kind::Table => 1,
+        }
     }
-    script::fill(&mut paper[0..n], words[3]);
-    let answer = send::send(&mut memory[0..m], words[0], words[1], &paper[0..n]);
-    script::print_answer(to, send::number_of(answer))?;
-    script::print_number(to, script::sum(&memory[0..m]), b" 0\n")?;
-    Ok(held)
 }
 
-// The two sums of a call with an out.
-fn print_sums(to: &impl Print, memory: &[u32], out: &[u32]) -> io::Result<()> {
-    script::print_number(to, script::sum(memory), b" ")?;
-    script::print_number(to, script::sum(out), b"\n")
-}
-
-// Kind 3: receive.
-fn play_receive(
+// The line of a call: its answer, the sum of the memory and that of its out, 0 where it has none.
+fn print_line(
     to: &impl Print,
-    memory: &mut [u32],
-    paper: &mut [u32],
-    held: Held,
-    words: [u32; 5],
-) -> io::Result<Held>
-    requires fits { Fits held }
-    requires memory_len { length memory.old ≡ 512180 }
-    requires paper_len { length paper.old ≡ 40000 }
-    ensures { IfOk result (λ h. Fits h) }
-{
-    let m = held.memory;
-    let n = words[2] as usize;
-    if 2048 < n {
-        return bad(to, held);
-    }
-    script::fill(&mut paper[0..n], words[3]);
-    let answer = receive::receive(&mut memory[0..m], words[0], words[1], &mut paper[0..n]);
-    script::print_answer(to, receive::number_of(answer))?;
-    print_sums(to, &memory[0..m], &paper[0..n])?;
-    Ok(held)
-}
-
-// Kind 4: turn.
-fn play_turn(to: &impl Print, memory: &mut [u32], held: Held) -> io::Result<Held>
-    requires fits { Fits held }
-    requires memory_len { length memory.old ≡ 512180 }
-    ensures { IfOk result (λ h. Fits h) }
-{
-    let m = held.memory;
-    let answer = turn::turn(&mut memory[0..m]);
-    script::print_answer(to, turn::number_of(answer))?;
-    script::print_number(to, script::sum(&memory[0..m]), b" 0\n")?;
-    Ok(held)
-}
-
-// Kind 5: list.
-fn play_list(
-    to: &impl Print,
+    answer: Answer,
     memory: &[u32],
-    paper: &mut [u32],
-    held: Held,
-    n: u32,
-    f: u32,
-) -> io::Result<Held>
-    requires fits { Fits held }
-    requires memory_len { length memory.now ≡ 512180 }
-    requires paper_len { length paper.old ≡ 40000 }
-    ensures { IfOk result (λ h. Fits h) }
-{
-    let m = held.memory;
-    let k = n as usize;
-    if 40000 < k {
-        return bad(to, held);
-    }
-    script::fill(&mut paper[0..k], f);
-    let answer = listing::list(&memory[0..m], &mut paper[0..k]);
-    script::print_answer(to, listing::number_of(answer))?;
-    print_sums(to, &memory[0..m], &paper[0..k])?;
-    Ok(held)
+    out: u64,
+) -> Result<(), ScriptError> {
+    script::print_answer(to, answer)?;
+    println!(to; "{} {out}", script::sum(memory))?;
+    Ok(())
 }
 
-// Kind 6: another memory.
-fn play_memory(to: &impl Print, memory: &mut [u32], held: Held, n: u32, f: u32) -> io::Result<Held>
-    requires fits { Fits held }
-    requires memory_len { length memory.old ≡ 512180 }
-    ensures { IfOk result (λ h. Fits h) }
+// A length that a script may ask for; a greater one makes it bad.
+fn within(n: u32, most: usize) -> Result<usize, ScriptError>
+    ensures { IfOk result (λ k. k ≤ most) }
 {
-    let m = n as usize;
-    if 512180 < m {
-        return bad(to, held);
-    }
-    script::fill(&mut memory[0..m], f);
-    Ok(Held {
-        memory: m,
-        table: held.table,
-        on: true,
-    })
-}
-
-// Kind 7: another table.
-fn play_table<R: io::Read>(
-    from: &mut R,
-    to: &impl Print,
-    table: &mut [u32],
-    held: Held,
-    n: u32,
-) -> io::Result<Held>
-    requires fits { Fits held }
-    requires table_len { length table.old ≡ 1024 }
-    ensures { IfOk result (λ h. Fits h) }
-{
-    let t = n as usize;
-    if 1024 < t {
-        return bad(to, held);
-    }
-    if script::read_all(from, &mut table[0..t])? {
-        Ok(Held {
-            memory: held.memory,
-            table: t,
-            on: true,
-        })
+    let n = n as usize;
+    if n <= most {
+        Ok(n)
     } else {
-        bad(to, held)
+        Err(ScriptError::Bad)
     }
 }
 
-// Kind 8: one word of the memory.
-fn play_word(
-    to: &impl Print,
-    memory: &mut [u32],
-    held: Held,
-    index: u32,
-    value: u32,
-) -> io::Result<Held>
-    requires fits { Fits held }
-    requires memory_len { length memory.old ≡ 512180 }
-    ensures { IfOk result (λ h. Fits h) }
-{
-    let i = index as usize;
-    if i < held.memory {
-        memory[i] = value;
-        Ok(held)
-    } else {
-        bad(to, held)
+// How many words of the memory and of the table a script has in use.
+#[derive(Clone, Copy)]
+struct InUse {
+    memory: usize,
+    table: usize,
+    ghost memory_fits: { memory ≤ MEMORY_WORDS },
+    ghost table_fits: { table ≤ TABLE_WORDS },
+}
+
+// What a script is played on; the paper has the body or the out of a call.
+#[derive(Drop)]
+struct Player {
+    memory: [u32; MEMORY_WORDS],
+    table: [u32; TABLE_WORDS],
+    paper: [u32; PAPER_WORDS],
+    in_use: InUse,
+}
+
+// Of two fields lent at a time each is lent whole before its part is taken: two parts are not lent side by side.
+impl Player {
+    fn set_up(&mut self, to: &impl Print, words: [u32; 5]) -> Result<(), ScriptError> {
+        let [b, m, s, a, t] = words;
+        let memory = &mut self.memory[..];
+        let memory = &mut memory[..self.in_use.memory];
+        let table = &self.table[..self.in_use.table];
+        let answer = setup::set_up(b, m, s, a, t, table, memory);
+        print_line(to, answers::answer_to(answer), memory, 0)
+    }
+
+    fn send(&mut self, to: &impl Print, words: [u32; 5]) -> Result<(), ScriptError> {
+        let [source, destination, n, f, _] = words;
+        let n = within(n, BODY_WORDS)?;
+        let memory = &mut self.memory[..];
+        let paper = &mut self.paper[..];
+        let memory = &mut memory[..self.in_use.memory];
+        let body = &mut paper[..n];
+        script::fill(body, f);
+        let answer = send::send(memory, source, destination, body);
+        print_line(to, answers::answer_to(answer), memory, 0)
+    }
+
+    fn receive(&mut self, to: &impl Print, words: [u32; 5]) -> Result<(), ScriptError> {
+        let [destination, source, n, f, _] = words;
+        let n = within(n, BODY_WORDS)?;
+        let memory = &mut self.memory[..];
+        let paper = &mut self.paper[..];
+        let memory = &mut memory[..self.in_use.memory];
+        let out = &mut paper[..n];
+        script::fill(out, f);
+        let answer = receive::receive(memory, destination, source, out);
+        print_line(to, answers::answer_to(answer), memory, script::sum(out))
+    }
+
+    fn turn(&mut self, to: &impl Print) -> Result<(), ScriptError> {
+        let memory = &mut self.memory[..self.in_use.memory];
+        let answer = turn::turn(memory);
+        print_line(to, answers::answer_to(answer), memory, 0)
+    }
+
+    fn list(&mut self, to: &impl Print, words: [u32; 5]) -> Result<(), ScriptError> {
+        let [n, f, ..] = words;
+        let n = within(n, PAPER_WORDS)?;
+        let paper = &mut self.paper[..];
+        let out = &mut paper[..n];
+        script::fill(out, f);
+        let memory = &self.memory[..self.in_use.memory];
+        let answer = listing::list(memory, out);
+        print_line(to, answers::answer_to(answer), memory, script::sum(out))
+    }
+
+    // Another memory: n words that rise from f.
+    fn change_memory(&mut self, words: [u32; 5]) -> Result<(), ScriptError> {
+        let [n, f, ..] = words;
+        self.in_use.memory = within(n, MEMORY_WORDS)?;
+        script::fill(&mut self.memory[..self.in_use.memory], f);
+        Ok(())
+    }
+
+    // Another table: the next n words of the script.
+    fn change_table<R: io::Read>(
+        &mut self,
+        from: &mut R,
+        words: [u32; 5],
+    ) -> Result<(), ScriptError> {
+        let [n, ..] = words;
+        self.in_use.table = within(n, TABLE_WORDS)?;
+        script::read_all(from, &mut self.table[..self.in_use.table])
+    }
+
+    // Another word in the memory.
+    fn change_word(&mut self, words: [u32; 5]) -> Result<(), ScriptError> {
+        let [index, value, ..] = words;
+        let memory = &mut self.memory[..self.in_use.memory];
+        *memory.get_mut(index as usize).ok_or(ScriptError::Bad)? = value;
+        Ok(())
+    }
+
+    // One kind with its arguments.
+    fn play<R: io::Read>(
+        &mut self,
+        from: &mut R,
+        to: &impl Print,
+        kind: Kind,
+        words: [u32; 5],
+    ) -> Result<(), ScriptError> {
+        match kind {
+            Kind::SetUp => self.set_up(to, words),
+            Kind::Send => self.send(to, words),
+            Kind::Receive => self.receive(to, words),
+            Kind::Turn => self.turn(to),
+            Kind::List => self.list(to, words),
+            Kind::Memory => self.change_memory(words),
+            Kind::Table => self.change_table(from, words),
+            Kind::Word => self.change_word(words),
+        }
+    }
+
+    // Plays what stands next, and says whether anything did.
+    fn step<R: io::Read>(&mut self, from: &mut R, to: &impl Print) -> Result<bool, ScriptError> {
+        let Some(number) = script::read_word(from)? else {
+            return Ok(false);
+        };
+        let kind = Kind::try_from(number)?;
+        let words = script::read_arguments(from, kind.arguments())?;
+        self.play(from, to, kind, words)?;
+        Ok(true)
     }
 }
 
-// How many arguments a kind has; 5 is the most.
-fn count(kind: u32) -> usize
-    ensures { result ≤ 5 }
-{
-    match kind {
-        1 => 5,
-        2 | 3 => 4,
-        5 | 6 | 8 => 2,
-        7 => 1,
-        _ => 0,
-    }
-}
-
-// A call, of kinds 1 to 5.
-fn play_call(
-    to: &impl Print,
-    memory: &mut [u32],
-    table: &[u32],
-    paper: &mut [u32],
-    held: Held,
-    kind: u32,
-    words: [u32; 5],
-) -> io::Result<Held>
-    requires fits { Fits held }
-    requires memory_len { length memory.old ≡ 512180 }
-    requires table_len { length table.now ≡ 1024 }
-    requires paper_len { length paper.old ≡ 40000 }
-    ensures { IfOk result (λ h. Fits h) }
-{
-    match kind {
-        1 => play_set_up(to, memory, table, held, words),
-        2 => play_send(to, memory, paper, held, words),
-        3 => play_receive(to, memory, paper, held, words),
-        4 => play_turn(to, memory, held),
-        5 => play_list(to, memory, paper, held, words[0], words[1]),
-        _ => bad(to, held),
-    }
-}
-
-// One kind with its arguments.
-fn play<R: io::Read>(
-    from: &mut R,
-    to: &impl Print,
-    memory: &mut [u32],
-    table: &mut [u32],
-    paper: &mut [u32],
-    held: Held,
-    kind: u32,
-) -> io::Result<Held>
-    requires fits { Fits held }
-    requires memory_len { length memory.old ≡ 512180 }
-    requires table_len { length table.old ≡ 1024 }
-    requires paper_len { length paper.old ≡ 40000 }
-    ensures { IfOk result (λ h. Fits h) }
-{
-    let read = script::read_arguments(from, count(kind))?;
-    if !read.whole {
-        return bad(to, held);
-    }
-    let words = read.words;
-    match kind {
-        6 => play_memory(to, memory, held, words[0], words[1]),
-        7 => play_table(from, to, table, held, words[0]),
-        8 => play_word(to, memory, held, words[0], words[1]),
-        _ => play_call(to, memory, table, paper, held, kind, words),
-    }
-}
-
-// The next kind, if there is one.
-fn step<R: io::Read>(
-    from: &mut R,
-    to: &impl Print,
-    memory: &mut [u32],
-    table: &mut [u32],
-    paper: &mut [u32],
-    held: Held,
-) -> io::Result<Held>
-    requires fits { Fits held }
-    requires memory_len { length memory.old ≡ 512180 }
-    requires table_len { length table.old ≡ 1024 }
-    requires paper_len { length paper.old ≡ 40000 }
-    ensures { IfOk result (λ h. Fits h) }
-{
-    match script::read_word(from)? {
-        Read::Word(kind) => play(from, to, memory, table, paper, held, kind),
-        Read::End => Ok(ended(held)),
-        Read::Part => bad(to, held),
-    }
-}
-
-fn main(rt: HostRuntime) -> io::Result<()> {
-    let mut memory = [0u32; 512180];
-    let mut table = [0u32; 1024];
-    let mut paper = [0u32; 40000];
-    let mut from = rt.stdin();
-    let mut held = Held {
-        memory: 0,
-        table: 0,
-        on: true,
+// Plays a whole script, from an empty memory and an empty table.
+fn play_script<R: io::Read>(from: &mut R, to: &impl Print) -> Result<(), ScriptError> {
+    let mut player = Player {
+        memory: [0; MEMORY_WORDS],
+        table: [0; TABLE_WORDS],
+        paper: [0; PAPER_WORDS],
+        in_use: InUse {
+            memory: 0,
+            table: 0,
+        },
     };
+    // The script ends the run; the range is there because every loop is proved to end.
     for _ in 0..u64::MAX {
-        if !held.on {
+        if !player.step(from, to)? {
             break;
         }
-        held = step(&mut from, &rt, &mut memory, &mut table, &mut paper, held)?;
     }
     Ok(())
+}
+
+// A bad script ends the run with a line that says so.
+fn main(rt: HostRuntime) -> io::Result<()> {
+    let mut from = rt.stdin();
+    match play_script(&mut from, &rt) {
+        Ok(()) => Ok(()),
+        Err(ScriptError::Io(error)) => Err(error),
+        Err(ScriptError::Bad) => script::print_bad(&rt),
+    }
 }

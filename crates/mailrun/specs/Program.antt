@@ -2,7 +2,8 @@
 use Rattle.std.specs.Prelude.{cond, List, ℕ, ◌+◌, ◌*◌, eqb, length, get_or, replicate}
 use Rattle.answers.specs.declared.Answer.{Answer}
 use Rattle.answers.specs.Numbers.{bare, unknown_record}
-use Rattle.send.specs.Outcome.{send, told as told_sent}
+use Rattle.posting.specs.Told.{told as told_sent}
+use Rattle.send.specs.Outcome.{send}
 use Rattle.receive.specs.Outcome.{receive, told as told_received}
 use Rattle.turn.specs.Outcome.{turn, told as told_turned}
 use Rattle.script.specs.Words.{rising}

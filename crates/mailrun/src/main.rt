@@ -7,30 +7,23 @@ ghost use Rattle.mailrun.specs.Program.{word_from, sent, received, played};
 use answers::Answer;
 use std::io;
 
-fn wide(x: u8) -> u32
-    ensures { (result ≡ x) × (result ≤ 255) }
-{
-    x as u32
-}
-
 // f: the last four bytes of a record, low byte first.
 fn word_from(bytes: &[u8]) -> u32
     requires { length bytes.now ≡ 8 }
     ensures { result ≡ word_from bytes.now }
 {
-    let low = wide(bytes[4]) + wide(bytes[5]) * 256;
-    let high = wide(bytes[6]) + wide(bytes[7]) * 256;
-    low + high * 65536
+    u32::from_le_bytes([bytes[4], bytes[5], bytes[6], bytes[7]])
 }
 
 // Sends from the first task to the second; the body fills a side row of its length.
+#[tactic(auto, unfolding(crate::specs::Program::sent))]
 fn send_through(memory: &mut [u32], bytes: &[u8], side: &mut [u32]) -> Answer
     requires bytes_len { length bytes.now ≡ 8 }
     requires side_len { length side.old ≡ get_or bytes.now 3 0 }
     ensures { record { answer = result; memory = memory.new } ≡ sent memory.old bytes.now }
 {
     script::fill(side, word_from(bytes));
-    mail::mail_send(memory, wide(bytes[1]), wide(bytes[2]), side)
+    mail::mail_send(memory, u32::from(bytes[1]), u32::from(bytes[2]), side)
 }
 
 // Kind 1: first task, second task, body length, f.
@@ -38,9 +31,8 @@ fn play_send(memory: &mut [u32], bytes: &[u8]) -> Answer
     requires { length bytes.now ≡ 8 }
     ensures { record { answer = result; memory = memory.new } ≡ sent memory.old bytes.now }
 {
-    let mut side = [0u32; 255];
-    let n = wide(bytes[3]) as usize;
-    send_through(memory, bytes, &mut side[0..n])
+    let mut side = [0; 255];
+    send_through(memory, bytes, &mut side[..usize::from(bytes[3])])
 }
 
 // Kind 2: first task, second task; the third value is the body's first word.
@@ -48,43 +40,33 @@ fn play_receive(memory: &mut [u32], bytes: &[u8]) -> Answer
     requires { length bytes.now ≡ 8 }
     ensures { record { answer = result; memory = memory.new } ≡ received memory.old bytes.now }
 {
-    let mut out = [0u32; 255];
-    let answer = mail::mail_receive(memory, wide(bytes[1]), wide(bytes[2]), &mut out);
+    let mut out = [0; 255];
+    let answer = mail::mail_receive(memory, u32::from(bytes[1]), u32::from(bytes[2]), &mut out);
     Answer {
-        number: answer.number,
-        first: answer.first,
-        second: answer.second,
         third: out[0],
+        ..answer
     }
 }
 
 // One record; an unknown kind and a short record are refused by 12.
+#[tactic(auto, unfolding(crate::specs::Program::played, crate::specs::Program::turned))]
 fn play(memory: &mut [u32], bytes: &[u8]) -> Answer
     ensures { record { answer = result; memory = memory.new } ≡ played memory.old bytes.now }
 {
     if bytes.len() != 8 {
         return answers::bare(12);
     }
-    let kind = bytes[0];
-    if kind == 1 {
-        return play_send(memory, bytes);
+    match bytes[0] {
+        1 => play_send(memory, bytes),
+        2 => play_receive(memory, bytes),
+        3 => mail::mail_turn(memory),
+        _ => answers::bare(12),
     }
-    if kind == 2 {
-        return play_receive(memory, bytes);
-    }
-    if kind == 3 {
-        return mail::mail_turn(memory);
-    }
-    answers::bare(12)
 }
 
 // The line of one event.
 fn print_line(to: &impl Print, event: u64, a: Answer) -> io::Result<()> {
-    script::print_number(to, event, b" ")?;
-    script::print_number(to, u64::from(a.number), b" ")?;
-    script::print_number(to, u64::from(a.first), b" ")?;
-    script::print_number(to, u64::from(a.second), b" ")?;
-    script::print_number(to, u64::from(a.third), b"\n")
+    println!(to; "{event} {} {} {} {}", a.number, a.first, a.second, a.third)
 }
 
 // Reads and plays the next record, and says whether there was one.
@@ -94,21 +76,19 @@ fn step<R: io::Read>(
     memory: &mut [u32],
     event: u64,
 ) -> io::Result<bool> {
-    let mut bytes = [0u8; 8];
+    let mut bytes = [0; 8];
     let n = script::read_full(from, &mut bytes)?;
     if n == 0 {
         return Ok(false);
     }
-    print_line(to, event, play(memory, &bytes[0..n]))?;
+    print_line(to, event, play(memory, &bytes[..n]))?;
     Ok(true)
 }
 
 // No task is bound.
 fn unbind(table: &mut [u32]) {
-    let mut i = 0;
-    while i < table.len() {
-        table[i] = if i % 2 == 0 { 255 } else { 0 };
-        i += 1;
+    for (i, word) in table.iter_mut().enumerate() {
+        *word = if i % 2 == 0 { 255 } else { 0 };
     }
 }
 
@@ -122,8 +102,8 @@ fn bind(table: &mut [u32], task: usize, node: u32, queue: u32)
 }
 
 fn main(rt: HostRuntime) -> io::Result<()> {
-    let mut memory = [0u32; 3788];
-    let mut table = [0u32; 512];
+    let mut memory = [0; 3788];
+    let mut table = [0; 512];
     unbind(&mut table);
     bind(&mut table, 7, 2, 5);
     bind(&mut table, 27, 2, 4);

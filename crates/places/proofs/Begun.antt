@@ -2,12 +2,13 @@
 use mathlib.Core.Path.{◌≡◌, refl, sym, ap, ◌∙◌}
 use mathlib.Core.Bool.{Bool, true, cond, ◌&&◌}
 use mathlib.Core.List.{List, [], ◌∷◌}
-use Prim.Native.Nat.{ℕ, ◌+◌, ◌-◌, ◌<◌}
+use Prim.Native.Nat.{ℕ, ◌-◌, ◌≤◌, ◌<◌}
 use native.Mathlib.Omega.{arith}
 use lib.Dec.{eqb, leb}
 use lib.ListN.{get_or}
 use borrow.Author.Tests.{eq-eqb, ne_eqb, leb-true}
-use Rattle.words.proofs.Lists.{and-true}
+use mathlib.Core.Logic.{⊎_elim}
+use Rattle.words.proofs.Lists.{and-true, le_or_lt}
 use Rattle.settings.specs.declared.Settings.{Settings}
 use Rattle.layout.specs.Places.{nodes, task_queues, node, send_at, ack_at, task_at}
 use Rattle.layout.proofs.NodeRows.{by-send, by_ack, by_task}
@@ -30,7 +31,7 @@ use Rattle.visits.specs.Letters.{is_asked, meets, letter_right, letters_right, J
 use Rattle.visits.proofs.Judge.{right_none, marks_none}
 use Rattle.places.specs.declared.Place.{Place}
 use Rattle.places.specs.Given.{stands_right, Looked, begun_at, Stands}
-use Rattle.places.proofs.Ranges.{place_right}
+use Rattle.places.proofs.Seen.{place_right}
 
 -- ---- what was judged of letters at a place that asks what the rules ask for there
 module _ (s : Settings) (memory : List ℕ) (i p : ℕ) (asks : Asks) (h : (ws : List ℕ) → meets asks ws ≡ right_place (table_in memory) i p ws) where
@@ -97,42 +98,49 @@ pub record At (s : Settings) (memory : List ℕ) (i p : ℕ) (x : Place) : Type 
   pub begins : begun_at s memory x ≡ begun s memory i p
   pub asked : (ws : List ℕ) → meets x.asks ws ≡ right_place (table_in memory) i p ws
 
-module _ (s : Settings) (memory : List ℕ) (i : ℕ) (g : Looked s memory) (small : i < nodes) where
-  pub send-place : (k : ℕ) → k < nodes → At s memory i (1 + k) (record { holder = i; kind = send_kind s; at = send_at s k; asks = Between i k })
+module _ (s : Settings) (memory : List ℕ) (i : ℕ) (g : Looked s memory) (small : i < nodes) (p : ℕ) where
+  send-place : 1 ≤ p → p < 7 → At s memory i p (record { holder = i; kind = send_kind s; at = send_at s (p - 1); asks = Between i (p - 1) })
   unfolding begun is_asked right_place
-  send-place k h =
-      let d : 1 + k - 1 ≡ k = omega arith in
+  send-place q h =
+      let k : p - 1 < nodes = omega arith in
       record {
-        stands = record { there = small; queue = send-queue s memory g.sized i small (g.queues i small) k h };
-        begins = send-live s memory g.sized i small (g.queues i small) k h
-            ∙ sym (by-send (1 + k) _ (send_items s memory i (1 + k - 1)) _ _ [] (omega arith) (omega arith) ∙ ap (send_items s memory i) d);
-        asked = λ ws. sym (by-send (1 + k) true (from_to i (1 + k - 1) ws) (from_to i (1 + k - 7) ws) (eqb (get_or ws 2 0) (task_of (table_in memory) i (1 + k - 13))) true (omega arith) (omega arith)
-            ∙ ap (λ (n : ℕ). from_to i n ws) d);
+        stands = record { there = small; queue = send-queue s memory g.sized i small (g.queues i small) (p - 1) k };
+        begins = send-live s memory g.sized i small (g.queues i small) (p - 1) k
+            ∙ sym (by-send p _ (send_items s memory i (p - 1)) _ _ [] q h);
+        asked = λ ws. sym (by-send p true (from_to i (p - 1) ws) (from_to i (p - 7) ws) (eqb (get_or ws 2 0) (task_of (table_in memory) i (p - 13))) true q h);
       }
 
-  pub ack_place : (j : ℕ) → j < nodes → At s memory i (7 + j) (record { holder = j; kind = ack_kind s; at = ack_at s i; asks = Between i j })
+  ack_place : 7 ≤ p → p < 13 → At s memory i p (record { holder = p - 7; kind = ack_kind s; at = ack_at s i; asks = Between i (p - 7) })
   unfolding begun is_asked right_place
-  ack_place j h =
-      let d : 7 + j - 7 ≡ j = omega arith in
+  ack_place q h =
+      let j : p - 7 < nodes = omega arith in
       record {
-        stands = record { there = h; queue = ack_queue s memory g.sized j h (g.queues j h) i small };
-        begins = ack_live s memory g.sized j h (g.queues j h) i small
-            ∙ sym (by_ack (7 + j) _ _ (ack_items s memory (7 + j - 7) i) _ [] (omega arith) (omega arith) ∙ ap (λ (n : ℕ). ack_items s memory n i) d);
-        asked = λ ws. sym (by_ack (7 + j) true (from_to i (7 + j - 1) ws) (from_to i (7 + j - 7) ws) (eqb (get_or ws 2 0) (task_of (table_in memory) i (7 + j - 13))) true (omega arith) (omega arith)
-            ∙ ap (λ (n : ℕ). from_to i n ws) d);
+        stands = record { there = j; queue = ack_queue s memory g.sized (p - 7) j (g.queues (p - 7) j) i small };
+        begins = ack_live s memory g.sized (p - 7) j (g.queues (p - 7) j) i small
+            ∙ sym (by_ack p _ _ (ack_items s memory (p - 7) i) _ [] q h);
+        asked = λ ws. sym (by_ack p true (from_to i (p - 1) ws) (from_to i (p - 7) ws) (eqb (get_or ws 2 0) (task_of (table_in memory) i (p - 13))) true q h);
       }
 
-  pub task_place : (row : List ℕ) → Seats (table_in memory) row → (q : ℕ) → q < task_queues → At s memory i (13 + q) (record { holder = i; kind = task_kind s; at = task_at s q; asks = To (get_or row (seat_at i q) 0) })
-  unfolding begun is_asked right_place
-  task_place row seats q h =
-      let d : 13 + q - 13 ≡ q = omega arith in
-      record {
-        stands = record { there = small; queue = task_queue s memory g.sized i small (g.queues i small) q h };
-        begins = sym (by_task (13 + q) _ _ _ (live (task_items s memory i (13 + q - 13))) [] (omega arith) (omega arith) ∙ ap (λ (n : ℕ). live (task_items s memory i n)) d);
-        asked = λ ws. ap (eqb (get_or ws 2 0)) (seats.is i q small h)
-            ∙ sym (by_task (13 + q) true (from_to i (13 + q - 1) ws) (from_to i (13 + q - 7) ws) (eqb (get_or ws 2 0) (task_of (table_in memory) i (13 + q - 13))) true (omega arith) (omega arith)
-            ∙ ap (λ (n : ℕ). eqb (get_or ws 2 0) (task_of (table_in memory) i n)) d);
-      }
+  module _ (row : List ℕ) (seats : Seats (table_in memory) row) where
+    task_place : 13 ≤ p → p < 77 → At s memory i p (record { holder = i; kind = task_kind s; at = task_at s (p - 13); asks = To (get_or row (seat_at i (p - 13)) 0) })
+    unfolding begun is_asked right_place
+    task_place h e =
+        let q : p - 13 < task_queues = omega arith in
+        record {
+          stands = record { there = small; queue = task_queue s memory g.sized i small (g.queues i small) (p - 13) q };
+          begins = sym (by_task p _ _ _ (live (task_items s memory i (p - 13))) [] h e);
+          asked = λ ws. ap (eqb (get_or ws 2 0)) (seats.is i (p - 13) small q)
+              ∙ sym (by_task p true (from_to i (p - 1) ws) (from_to i (p - 7) ws) (eqb (get_or ws 2 0) (task_of (table_in memory) i (p - 13))) true h e);
+        }
+
+    pub place_is : 1 ≤ p → p < 77 → (x : Place)
+        → (p < 7 → x ≡ record { holder = i; kind = send_kind s; at = send_at s (p - 1); asks = Between i (p - 1) })
+        → (7 ≤ p → p < 13 → x ≡ record { holder = p - 7; kind = ack_kind s; at = ack_at s i; asks = Between i (p - 7) })
+        → (13 ≤ p → x ≡ record { holder = i; kind = task_kind s; at = task_at s (p - 13); asks = To (get_or row (seat_at i (p - 13)) 0) })
+        → At s memory i p x
+    place_is q e x sends acks tasks =
+        ⊎_elim (λ h. ⊎_elim (λ f. rw (tasks f) (task_place f e)) (λ f. rw (acks h f) (ack_place h f)) (le_or_lt 13 p))
+        (λ h. rw (sends h) (send-place q h)) (le_or_lt 7 p)
 
 -- what was judged of the letters of a place, by what is known of it
 pub judged_at : (s : Settings) (memory : List ℕ) (i p : ℕ) (x : Place) → At s memory i p x → (marks : List ℕ) (r : Bool) (new : List ℕ)

@@ -1,4 +1,4 @@
-pub mod Ranges
+pub mod Seen
 pub mod Begun
 pub mod Counts
 pub mod Once

@@ -1,4 +1,5 @@
 -- The free list and the places of a node together: what the marks decide is the fifth and the sixth rule. Assumes nothing.
+use Rattle.std.specs.Prelude.{None, Option, Some, is_some}
 use mathlib.Core.Path.{◌≡◌, refl, sym, ap, ap₂, ◌∙◌}
 use mathlib.Core.Bool.{Bool, true, false, ◌&&◌, false≢true}
 use mathlib.Core.List.{List, [], ◌∷◌}
@@ -10,7 +11,7 @@ use mathlib.Core.Logic.{⊎_elim}
 use borrow.Author.Tests.{eqb-true}
 use Rattle.words.specs.Words.{every, all}
 use Rattle.words.specs.Count.{occurs}
-use Rattle.words.proofs.Lists.{split, same?, and-true, and-false, every_at, all_head, le_or_lt, told_no, told_yes}
+use Rattle.words.proofs.Lists.{split, same?, and-true, and-false, every_at, all_head, le_or_lt, told_no, told_yes, option?}
 use Rattle.words.proofs.Count.{occurs-append}
 use Rattle.settings.specs.declared.Settings.{Settings}
 use Rattle.layout.specs.Places.{first_free_at, node}
@@ -19,8 +20,6 @@ use Rattle.sound.specs.Reading.{table_in}
 use Rattle.sound.specs.Letters.{chain_from, ends_well, right_letter}
 use Rattle.sound.specs.Blocks.{chains, begun, standing, visits, each_once, right_letters}
 use Rattle.sound.proofs.Tests.{and_assoc, and_yes, every_same}
-use Rattle.visits.specs.declared.Walk.{Walk}
-use Rattle.visits.specs.declared.Walk.TheVariants.{Ended, Bad}
 use Rattle.visits.specs.Marks.{fresh, marked, ends_within, clean, Visited}
 use Rattle.visits.specs.Letters.{Judged}
 use Rattle.visits.proofs.Walks.{fresh-append, marked_append}
@@ -42,7 +41,7 @@ blank_start =
     }
 
 -- ---- the free list
-module _ (s : Settings) (l marks : List ℕ) (r : Walk) (new : List ℕ) (v : Visited s l s.m (get_or l first_free_at 0) marks r new) where
+module _ (s : Settings) (l marks : List ℕ) (r : Option ℕ) (new : List ℕ) (v : Visited s l s.m (get_or l first_free_at 0) marks r new) where
   abbrev first : ℕ
   first = get_or l first_free_at 0
 
@@ -50,18 +49,21 @@ module _ (s : Settings) (l marks : List ℕ) (r : Walk) (new : List ℕ) (v : Vi
   unfolding free_right clean ends_within ends_well
   same = refl
 
-  apart : (n : ℕ) → Ended n ≡ Bad → ⊥
+  apart : (n : ℕ) → Some n ≡ None → ⊥
   apart n z = let y : ◌≡◌ {A = ℕ} 0 1 = cc in omega arith
 
-  pub free_bad : r ≡ Bad → Judged (free_right s l marks) (marked marks (chain_from s l (get_or l first_free_at 0))) false new
+  free_bad : r ≡ None → Judged (free_right s l marks) (marked marks (chain_from s l (get_or l first_free_at 0))) false new
   free_bad e =
-      let c : clean s l s.m first marks ≡ false = told_no (clean s l s.m first marks) (Ended (s.m - length (chain_from s l first))) Bad r v.is (apart _) e in
+      let c : clean s l s.m first marks ≡ false = told_no (clean s l s.m first marks) (Some (s.m - length (chain_from s l first))) None r v.is (apart _) e in
       record { is = sym (same ∙ c); marks = λ f. absurd (false≢true f) }
 
-  pub free_good : (left : ℕ) → r ≡ Ended left → Judged (free_right s l marks) (marked marks (chain_from s l (get_or l first_free_at 0))) true new
+  free_good : (left : ℕ) → r ≡ Some left → Judged (free_right s l marks) (marked marks (chain_from s l (get_or l first_free_at 0))) true new
   free_good left e =
-      let c : clean s l s.m first marks ≡ true = (told_yes (clean s l s.m first marks) (Ended (s.m - length (chain_from s l first))) Bad r v.is (Ended left) (apart left) e).0 in
+      let c : clean s l s.m first marks ≡ true = (told_yes (clean s l s.m first marks) (Some (s.m - length (chain_from s l first))) None r v.is (Some left) (apart left) e).0 in
       record { is = sym (same ∙ c); marks = λ f. v.marks c }
+
+  pub free_told : {b : Bool} → b ≡ is_some r → Judged (free_right s l marks) (marked marks (chain_from s l (get_or l first_free_at 0))) b new
+  free_told e = rw e (option? r (λ left f. rw f (free_good left f)) (λ f. rw f (free_bad f)))
 
 -- ---- the blocks that are visited are blocks
 module _ (s : Settings) (l t : List ℕ) (i p : ℕ) where

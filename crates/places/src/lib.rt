@@ -1,13 +1,17 @@
 // The places of a node: the letters at each of them, and each block in exactly one place.
 #![tactic(auto)]
 
-ghost use Rattle.std.specs.Prelude.{◌≡◌, ◌&&◌, ◌≤◌, ◌<◌, get_or};
-ghost use Rattle.layout.specs.Places.{nodes, task_queues, first_free_at, node};
+ghost use Rattle.std.specs.Prelude.{◌≡◌, ◌&&◌, ◌-◌, ◌≤◌, ◌<◌, get_or};
+ghost use Rattle.settings.specs.Range.{InRange};
+ghost use Rattle.layout.specs.Places.{nodes, first_free_at, node, send_at, ack_at, task_at};
 ghost use Rattle.layout.specs.Asked.{Stretch};
+ghost use Rattle.tasks.specs.Seat.{seat_at};
+ghost use Rattle.queues.specs.Queue.{send_kind, ack_kind, task_kind};
 ghost use Rattle.sound.specs.Reading.{table_in};
 ghost use Rattle.sound.specs.Letters.{chain_from};
 ghost use Rattle.sound.specs.Blocks.{chains, standing, each_once, right_letters};
 ghost use Rattle.shapes.specs.Seats.{Seats};
+ghost use Rattle.visits.specs.declared.Asks.TheVariants.{Between, To};
 ghost use Rattle.visits.specs.Marks.{marked};
 ghost use Rattle.visits.specs.Letters.{letters_right, Judged};
 ghost use Rattle.places.specs.Given.{
@@ -24,10 +28,10 @@ ghost use Rattle.places.specs.Given.{
 
 use queues::Kind;
 use settings::Settings;
-use visits::{Asks, Walk};
+use visits::Asks;
 
 // Where the letters of a place stand: on which node, in what kind of queue, from which word of the stretch on; and what the place asks of their headers.
-#[derive(Clone, Copy)]
+#[derive(Clone, Copy, Debug, PartialEq, Eq)]
 pub struct Place {
     pub holder: usize,
     pub kind: Kind,
@@ -48,13 +52,6 @@ fn is_right_hand(memory: &[u32], s: Settings, marks: &mut [u8; 1025], i: usize) 
     let held = memory[at + 2];
     let stretch = layout::stretch(memory, s, i);
     visits::is_right_letter(stretch, s, layout::table(memory), marks, Asks::Any, held)
-}
-
-// The task on a seat, as wide as a header has it.
-fn task_on(seat: u8) -> u32
-    ensures { result ≡ seat }
-{
-    seat as u32
 }
 
 // The letters of node i that stand at a place; mostly there are none.
@@ -80,89 +77,47 @@ fn are_right_letters(
     let stretch = layout::stretch(memory, s, i);
     let table = layout::table(memory);
     let asks = place.asks;
-    let mut c: usize = 0;
-    while c < count {
+    for c in 0..count {
         let b = queues::item(queue, k, q, c);
         if !visits::is_right_letter(stretch, s, table, marks, asks, b) {
             return false;
         }
-        c += 1;
     }
     true
 }
 
-// The letters in node i's six send queues.
-fn are_right_sends(memory: &[u32], s: Settings, marks: &mut [u8; 1025], i: usize) -> bool
-    requires looked { Looked s memory.now }
+// The place of number p for node i: 1 to 6 its send queues, 7 to 12 the acknowledge queues for it on nodes 0 to 5, 13 to 76 its task queues.
+fn place_at(s: Settings, seats: &[u8; 384], i: usize, p: usize) -> Place
+    requires in_range { InRange s }
     requires i_lt_nodes { i < nodes }
-    ensures { Judged (range_right s memory.now i marks.old 1 nodes) (marked marks.old (standing_from s memory.now i 1 nodes)) result marks.new }
+    requires p_bounds { (1 ≤ p) × (p < 77) }
+    ensures sends { p < 7 → result ≡ record { holder = i; kind = send_kind s; at = send_at s (p - 1); asks = Between i (p - 1) } }
+    ensures acks { 7 ≤ p → p < 13 → result ≡ record { holder = p - 7; kind = ack_kind s; at = ack_at s i; asks = Between i (p - 7) } }
+    ensures tasks { 13 ≤ p → result ≡ record { holder = i; kind = task_kind s; at = task_at s (p - 13); asks = To (get_or seats.now (seat_at i (p - 13)) 0) } }
 {
-    let mut k = 0;
-    while k < 6 {
-        let place = Place {
+    match p {
+        1..=6 => Place {
             holder: i,
             kind: queues::send_kind(s),
-            at: layout::send_at(s, k),
-            asks: Asks::Between(i as u32, k as u32),
-        };
-        if !are_right_letters(memory, s, marks, i, place) {
-            return false;
-        }
-        k += 1;
-    }
-    true
-}
-
-// The letters of node i in the acknowledge queues for it, on nodes 0 to 5.
-fn are_right_acks(memory: &[u32], s: Settings, marks: &mut [u8; 1025], i: usize) -> bool
-    requires looked { Looked s memory.now }
-    requires i_lt_nodes { i < nodes }
-    ensures { Judged (range_right s memory.now i marks.old 7 nodes) (marked marks.old (standing_from s memory.now i 7 nodes)) result marks.new }
-{
-    let mut j = 0;
-    while j < 6 {
-        let place = Place {
-            holder: j,
+            at: layout::send_at(s, p - 1),
+            asks: Asks::Between(i as u32, p as u32 - 1),
+        },
+        7..=12 => Place {
+            holder: p - 7,
             kind: queues::ack_kind(s),
             at: layout::ack_at(s, i),
-            asks: Asks::Between(i as u32, j as u32),
-        };
-        if !are_right_letters(memory, s, marks, i, place) {
-            return false;
-        }
-        j += 1;
-    }
-    true
-}
-
-// The letters in node i's 64 task queues.
-fn are_right_tasks(
-    memory: &[u32],
-    s: Settings,
-    seats: &[u8; 384],
-    marks: &mut [u8; 1025],
-    i: usize,
-) -> bool
-    requires { Node s memory.now seats.now i }
-    ensures { Judged (range_right s memory.now i marks.old 13 task_queues) (marked marks.old (standing_from s memory.now i 13 task_queues)) result marks.new }
-{
-    let mut q = 0;
-    while q < 64 {
-        let place = Place {
+            asks: Asks::Between(i as u32, p as u32 - 7),
+        },
+        _ => Place {
             holder: i,
             kind: queues::task_kind(s),
-            at: layout::task_at(s, q),
-            asks: Asks::To(task_on(seats[i * 64 + q])),
-        };
-        if !are_right_letters(memory, s, marks, i, place) {
-            return false;
-        }
-        q += 1;
+            at: layout::task_at(s, p - 13),
+            asks: Asks::To(u32::from(seats[i * 64 + p - 13])),
+        },
     }
-    true
 }
 
-// The letters at the 77 places of node i.
+// The letters at the 77 places of node i: the postman's hand is the first.
 fn are_right_places(
     memory: &[u32],
     s: Settings,
@@ -176,13 +131,13 @@ fn are_right_places(
     if !is_right_hand(memory, s, marks, i) {
         return false;
     }
-    if !are_right_sends(memory, s, marks, i) {
-        return false;
+    for p in 1..77 {
+        let place = place_at(s, seats, i, p);
+        if !are_right_letters(memory, s, marks, i, place) {
+            return false;
+        }
     }
-    if !are_right_acks(memory, s, marks, i) {
-        return false;
-    }
-    are_right_tasks(memory, s, seats, marks, i)
+    true
 }
 
 // The free list.
@@ -190,11 +145,7 @@ fn is_right_free(stretch: &[u32], s: Settings, marks: &mut [u8; 1025]) -> bool
     requires { Stretch s stretch.now }
     ensures { Judged (free_right s stretch.now marks.old) (marked marks.old (chain_from s stretch.now (get_or stretch.now first_free_at 0))) result marks.new }
 {
-    let walk = visits::visit(stretch, s, marks, stretch[0]);
-    let Walk::Ended(_) = walk else {
-        return false;
-    };
-    true
+    visits::visit(stretch, s, marks, stretch[0]).is_some()
 }
 
 // Whether blocks 1 to m have a mark.
@@ -202,14 +153,7 @@ fn are_all_marked(marks: &[u8; 1025], m: usize) -> bool
     requires { m ≤ 1024 }
     ensures { result ≡ all_marked m marks.now }
 {
-    let mut b: usize = 0;
-    while b < m {
-        if marks[b + 1] != 1 {
-            return false;
-        }
-        b += 1;
-    }
-    true
+    marks[1..=m].iter().all(|&mark| mark == 1)
 }
 
 // The fifth and the sixth rule in node i.
@@ -220,11 +164,7 @@ pub fn is_right_node(memory: &[u32], s: Settings, seats: &[u8; 384], i: usize) -
     ensures { result ≡ (each_once s memory.now i && right_letters s memory.now i) }
 {
     let mut marks = [0u8; 1025];
-    if !is_right_free(layout::stretch(memory, s, i), s, &mut marks) {
-        return false;
-    }
-    if !are_right_places(memory, s, seats, &mut marks, i) {
-        return false;
-    }
-    are_all_marked(&marks, s.m)
+    is_right_free(layout::stretch(memory, s, i), s, &mut marks)
+        && are_right_places(memory, s, seats, &mut marks, i)
+        && are_all_marked(&marks, s.m)
 }

@@ -1,4 +1,5 @@
 -- Letters posted in a fresh node with the program's settings, until blocks or room are wanting, as the checker computes them. Assumes nothing.
+use Rattle.std.specs.Prelude.{Err, Ok}
 use mathlib.Core.Path.{◌≡◌, refl}
 use mathlib.Core.List.{List, [], ◌∷◌, ◌++◌}
 use Prim.Native.Nat.{ℕ, ◌+◌}
@@ -18,7 +19,7 @@ use Rattle.gaps.specs.Close.{laid as laid_row, closed, cramped, roomy}
 use Rattle.posting.specs.Post.{Posted, has_room, appended_to, full_of, put_in, posted}
 use Rattle.posting.specs.declared.Goal.{Goal}
 use Rattle.posting.specs.declared.Goal.TheVariants.{Task, Node}
-use Rattle.posting.specs.declared.Sent.TheVariants.{Done, TooFewBlocks, QueueFull}
+use Rattle.posting.specs.declared.SendRefusal.TheVariants.{TooFewBlocks, QueueFull}
 
 -- 'Settings 8, 4, 2, 2, 2'
 abbrev s : Settings
@@ -48,9 +49,9 @@ abbrev after₃ : Goal → List ℕ → List ℕ → List ℕ → Posted
 after₃ goal ws vs us = posted s (after₂ goal ws vs).stretch goal us
 
 -- the first three lines of the program's output: done with two blocks, again, and then too few blocks
-pub sends_afar : ((after₁ (Node 3) (letter_of afar (100 ∷ 101 ∷ 102 ∷ []))).answer ≡ Done 2)
-    × ((after₂ (Node 3) (letter_of afar (100 ∷ 101 ∷ 102 ∷ [])) (letter_of afar (200 ∷ 201 ∷ 202 ∷ []))).answer ≡ Done 2)
-    × ((after₃ (Node 3) (letter_of afar (100 ∷ 101 ∷ 102 ∷ [])) (letter_of afar (200 ∷ 201 ∷ 202 ∷ [])) (letter_of afar [])).answer ≡ TooFewBlocks)
+pub sends_afar : ((after₁ (Node 3) (letter_of afar (100 ∷ 101 ∷ 102 ∷ []))).answer ≡ Ok (record { blocks = 2 }))
+    × ((after₂ (Node 3) (letter_of afar (100 ∷ 101 ∷ 102 ∷ [])) (letter_of afar (200 ∷ 201 ∷ 202 ∷ []))).answer ≡ Ok (record { blocks = 2 }))
+    × ((after₃ (Node 3) (letter_of afar (100 ∷ 101 ∷ 102 ∷ [])) (letter_of afar (200 ∷ 201 ∷ 202 ∷ [])) (letter_of afar [])).answer ≡ Err TooFewBlocks)
 unfolding needs list enough taken taken_from laid run counted more added appended append_answer has_room appended_to full_of put_in posted letter_of send_at blocks_at block_at
 sends_afar = (refl, refl, refl)
 
@@ -65,8 +66,8 @@ unfolding needs list chain text enough taken taken_from letter laid run counted 
 leaves_afar = (refl, refl, refl, refl, refl)
 
 -- to a task queue of the node, a block each: done, done, and the queue is full; but for its full count the stretch is as it was
-pub sends_near : ((after₂ (Task 5) (letter_of near []) (letter_of near [])).answer ≡ Done 1)
-    × ((after₃ (Task 5) (letter_of near []) (letter_of near []) (letter_of near [])).answer ≡ QueueFull)
+pub sends_near : ((after₂ (Task 5) (letter_of near []) (letter_of near [])).answer ≡ Ok (record { blocks = 1 }))
+    × ((after₃ (Task 5) (letter_of near []) (letter_of near []) (letter_of near [])).answer ≡ Err QueueFull)
     × ((after₃ (Task 5) (letter_of near []) (letter_of near []) (letter_of near [])).stretch ≡ set (after₂ (Task 5) (letter_of near []) (letter_of near [])).stretch (task_at s 5 + 3) 1)
     × (contents (task_kind s) (after₂ (Task 5) (letter_of near []) (letter_of near [])).stretch (task_at s 5) ≡ 1 ∷ 2 ∷ [])
 unfolding needs list enough taken taken_from laid run live counted more added appended append_answer laid_row closed cramped roomy has_room appended_to full_of put_in posted letter_of task_at blocks_at block_at
@@ -76,7 +77,7 @@ sends_near = (refl, refl, refl, refl)
 abbrev gapped : List ℕ
 gapped = set (set (after₂ (Task 5) (letter_of near []) (letter_of near [])).stretch (task_at s 5 + 6) 0) (task_at s 5 + gap_word) 1
 
-pub sends_gapped : ((posted s gapped (Task 5) (letter_of near (9 ∷ []))).answer ≡ Done 1)
+pub sends_gapped : ((posted s gapped (Task 5) (letter_of near (9 ∷ []))).answer ≡ Ok (record { blocks = 1 }))
     × (contents (task_kind s) (posted s gapped (Task 5) (letter_of near (9 ∷ []))).stretch (task_at s 5) ≡ 1 ∷ 3 ∷ [])
     × (get_or (posted s gapped (Task 5) (letter_of near (9 ∷ []))).stretch (task_at s 5 + gap_word) 0 ≡ 0)
 unfolding needs list enough taken taken_from laid run live counted more added appended append_answer laid_row closed cramped roomy has_room appended_to full_of put_in posted letter_of task_at blocks_at block_at

@@ -1,4 +1,5 @@
 -- The goal's queue is as it was where blocks are taken and a letter is written; what each function on the goal leaves. Assumes nothing.
+use Rattle.std.specs.Prelude.{Err, None, Ok, Result, Some}
 use mathlib.Core.Path.{◌≡◌, refl, sym, ap, ◌∙◌}
 use mathlib.Core.Bool.{true, false}
 use mathlib.Core.List.{List}
@@ -17,7 +18,6 @@ use Rattle.layout.proofs.NodeRows.{start-send, start_task, row_fits}
 use Rattle.blocks.specs.Chain.{needs, chain, free, Within}
 use Rattle.blocks.specs.Moves.{enough, taken, taken_answer}
 use Rattle.blocks.specs.Asked.{Takes}
-use Rattle.blocks.specs.declared.Taken.TheVariants.{First, Short}
 use Rattle.blocks.proofs.Rows.{rows}
 use Rattle.blocks.proofs.Moves.{taken-stretch, take-answer, take_chained, take_row}
 use Rattle.letters.specs.Letter.{written}
@@ -34,7 +34,8 @@ use Rattle.posting.specs.Asked.{Queued, Aims, Posts, Roomy}
 use Rattle.posting.specs.declared.Goal.{Goal}
 use Rattle.posting.specs.declared.Goal.TheVariants.{Task, Node}
 use Rattle.posting.specs.declared.Sent.{Sent}
-use Rattle.posting.specs.declared.Sent.TheVariants.{Done, TooFewBlocks, QueueFull}
+use Rattle.posting.specs.declared.SendRefusal.{SendRefusal}
+use Rattle.posting.specs.declared.SendRefusal.TheVariants.{TooFewBlocks, QueueFull}
 
 -- stretches whose queues' rows are the same have the same queues
 module _ (s : Settings) (l m : List ℕ) (u : Stretch s l) (v : Stretch s m) (e : (r : ℕ) → 1 ≤ r → r < 77 → rows s m r ≡ rows s l r) where
@@ -119,10 +120,10 @@ module _ (s : Settings) (node : List ℕ) (goal : Goal) (ws : List ℕ) (p : Roo
   new = taken s node (needs s (length ws))
 
   -- the blocks are there, the first of the free list before them
-  put-answer : taken_answer s node (needs s (length ws)) ≡ First (get_or node first_free_at 0)
+  put-answer : taken_answer s node (needs s (length ws)) ≡ Some (get_or node first_free_at 0)
   put-answer = take-answer s node st n has
 
-  pub never_short : taken_answer s node (needs s (length ws)) ≡ Short → ⊥
+  pub never_short : taken_answer s node (needs s (length ws)) ≡ None → ⊥
   never_short e = let z : ◌≡◌ {A = ℕ} 0 1 = cc (put-answer) in omega arith
 
   within_new : Within s.m (chain s new (needs s (length ws)) first)
@@ -142,7 +143,7 @@ module _ (s : Settings) (node : List ℕ) (goal : Goal) (ws : List ℕ) (p : Roo
   put-room = room-kept s node (written s new first ws) st after_write same_rows goal p.posts.aims.queue
 
   -- the stretch a after the blocks are taken, and the first of them
-  module _ (b : ℕ) (a : List ℕ) (e : taken_answer s node (needs s (length ws)) ≡ First b) (f : a ≡ taken s node (needs s (length ws))) where
+  module _ (b : ℕ) (a : List ℕ) (e : taken_answer s node (needs s (length ws)) ≡ Some b) (f : a ≡ taken s node (needs s (length ws))) where
     is_first : b ≡ get_or node first_free_at 0
     is_first = cc (put-answer)
 
@@ -178,18 +179,18 @@ module _ (s : Settings) (node : List ℕ) (goal : Goal) (q at : ℕ) (m : List �
   appended-node b e f g = rw (e, ← f) g
 
 -- ---- the outcome, by the tests on the way
-abbrev pub left : Sent → List ℕ → Posted
+abbrev pub left : Result Sent SendRefusal → List ℕ → Posted
 left a m = record { answer = a; stretch = m }
 
 module _ (s : Settings) (node : List ℕ) (goal : Goal) (ws : List ℕ) (n : ℕ) (q : n ≡ needs s (length ws)) (m : List ℕ) where
-  pub post-few : false ≡ enough s node n → m ≡ counted node 1 → left TooFewBlocks m ≡ posted s node goal ws
+  pub post-few : false ≡ enough s node n → m ≡ counted node 1 → left (Err TooFewBlocks) m ≡ posted s node goal ws
   unfolding posted
   post-few e g = rw (← q, ← e, g)
 
-  pub post_full : true ≡ enough s node n → false ≡ has_room s node goal → m ≡ counted node (full_of s goal) → left QueueFull m ≡ posted s node goal ws
+  pub post_full : true ≡ enough s node n → false ≡ has_room s node goal → m ≡ counted node (full_of s goal) → left (Err QueueFull) m ≡ posted s node goal ws
   unfolding posted
   post_full e f g = rw (← q, ← e, ← f, g)
 
-  pub post-done : true ≡ enough s node n → true ≡ has_room s node goal → m ≡ put_in s node goal ws → left (Done n) m ≡ posted s node goal ws
+  pub post-done : true ≡ enough s node n → true ≡ has_room s node goal → m ≡ put_in s node goal ws → left (Ok (record { blocks = n })) m ≡ posted s node goal ws
   unfolding posted
   post-done e f g = rw (← q, ← e, ← f, g)

@@ -1,3 +1,4 @@
 pub mod Letter
 pub mod Post
 pub mod Asked
+pub mod Told

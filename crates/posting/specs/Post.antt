@@ -1,28 +1,28 @@
 -- A letter put into a node's stretch: blocks taken, words written, the first block appended: 'Send'.
-use Rattle.std.specs.Prelude.{Bool, true, false, cond, List, ℕ, ◌+◌, length, get_or}
+use Rattle.std.specs.Prelude.{Bool, true, false, cond, List, ℕ, ◌+◌, length, get_or, Err, Ok, Result}
 use Rattle.settings.specs.declared.Settings.{Settings}
 use Rattle.layout.specs.Places.{first_free_at, room_at, send_at, task_at, full_word, task_full_word}
 use Rattle.blocks.specs.Chain.{needs}
 use Rattle.blocks.specs.Moves.{enough, taken}
 use Rattle.letters.specs.Letter.{written}
-use Rattle.queues.specs.declared.Appended.{Appended}
-use Rattle.queues.specs.declared.Appended.TheVariants.{Done as Appended-done, Full as Appended-full}
+use Rattle.queues.specs.declared.Full.{Full}
 use Rattle.queues.specs.Queue.{send_kind}
 use Rattle.queues.specs.Moves.{counted, appended, append_answer}
 use Rattle.gaps.specs.Close.{task_appended, task_answer}
 use Rattle.posting.specs.declared.Goal.{Goal}
 use Rattle.posting.specs.declared.Goal.TheVariants.{Task, Node}
 use Rattle.posting.specs.declared.Sent.{Sent}
-use Rattle.posting.specs.declared.Sent.TheVariants.{Done, TooFewBlocks, QueueFull}
+use Rattle.posting.specs.declared.SendRefusal.{SendRefusal}
+use Rattle.posting.specs.declared.SendRefusal.TheVariants.{TooFewBlocks, QueueFull}
 
 -- the queue takes one more, its gaps closed
-abbrev pub took_it : Appended → Bool
-took_it Appended-done = true
-took_it Appended-full = false
+abbrev pub took_it : Result Unit Full → Bool
+took_it (Ok _) = true
+took_it (Err _) = false
 
 -- what posting answers, and the stretch after it
 pub record Posted : Type 0 where
-  pub answer : Sent
+  pub answer : Result Sent SendRefusal
   pub stretch : List ℕ
 
 module _ (s : Settings) (stretch : List ℕ) where
@@ -51,6 +51,6 @@ unfoldable pub posted : Settings → List ℕ → Goal → List ℕ → Posted
 posted s stretch goal ws =
     cond (enough s stretch (needs s (length ws)))
     (cond (has_room s stretch goal)
-    (record { answer = Done (needs s (length ws)); stretch = put_in s stretch goal ws })
-    (record { answer = QueueFull; stretch = counted stretch (full_of s goal) }))
-    (record { answer = TooFewBlocks; stretch = counted stretch room_at })
+    (record { answer = Ok (record { blocks = needs s (length ws) }); stretch = put_in s stretch goal ws })
+    (record { answer = Err QueueFull; stretch = counted stretch (full_of s goal) }))
+    (record { answer = Err TooFewBlocks; stretch = counted stretch room_at })

@@ -1,7 +1,7 @@
 // Posting: a letter is put into a node's stretch, or refused there.
 #![tactic(auto)]
 
-ghost use Rattle.std.specs.Prelude.{◌≡◌, ◌+◌, length};
+ghost use Rattle.std.specs.Prelude.{◌≡◌, ◌+◌, length, Ok, Err};
 ghost use Rattle.layout.specs.Numbers.{header_words};
 ghost use Rattle.blocks.specs.Asked.{Takes};
 ghost use Rattle.blocks.specs.Moves.{enough};
@@ -10,17 +10,23 @@ ghost use Rattle.queues.specs.Queue.{Queue, send_kind};
 ghost use Rattle.queues.specs.Tasks.{TaskQueue};
 ghost use Rattle.queues.specs.Moves.{counted, append_answer};
 ghost use Rattle.gaps.specs.Close.{task_answer};
+ghost use Rattle.posting.specs.Told.{told};
 ghost use Rattle.posting.specs.Post.{took_it, has_room, appended_to, full_of, put_in, posted};
 ghost use Rattle.posting.specs.Asked.{Aims, Posts, Roomy};
 
-use blocks::Taken;
+use answers::Answer;
 use letters::Header;
 use settings::Settings;
 
-// What a send answers.
-#[derive(Clone, Copy)]
-pub enum Sent {
-    Done(u32),
+// What a send that is done answers: the blocks taken.
+#[derive(Clone, Copy, Debug, PartialEq, Eq)]
+pub struct Sent {
+    pub blocks: u32,
+}
+
+// Why a send was refused.
+#[derive(Clone, Copy, Debug, PartialEq, Eq)]
+pub enum SendRefusal {
     NotSound,
     SourceNotBound,
     DestinationNotBound,
@@ -29,8 +35,38 @@ pub enum Sent {
     QueueFull,
 }
 
+// The blocks taken.
+impl From<Sent> for Answer {
+    ghost from_gives = { λ sent a. a ≡ told (Ok sent) };
+
+    fn from(sent: Sent) -> Answer {
+        Answer {
+            number: 0,
+            first: sent.blocks,
+            second: 0,
+            third: 0,
+        }
+    }
+}
+
+// The number of each refusal.
+impl From<SendRefusal> for Answer {
+    ghost from_gives = { λ refusal a. a ≡ told (Err refusal) };
+
+    fn from(refusal: SendRefusal) -> Answer {
+        answers::bare(match refusal {
+            SendRefusal::NotSound => 1,
+            SendRefusal::SourceNotBound => 2,
+            SendRefusal::DestinationNotBound => 3,
+            SendRefusal::BodyTooLong => 4,
+            SendRefusal::TooFewBlocks => 5,
+            SendRefusal::QueueFull => 6,
+        })
+    }
+}
+
 // The queue that a letter goes to: a task queue of the same node, or the send queue for another node.
-#[derive(Clone, Copy)]
+#[derive(Clone, Copy, Debug, PartialEq, Eq)]
 pub enum Goal {
     Task(usize),
     Node(usize),
@@ -92,7 +128,7 @@ fn count_full(node: &mut [u32], s: Settings, goal: Goal)
     }
 }
 
-// Appends a block to the goal.
+// Appends a block to the goal; that it takes one more was looked at before.
 fn append_to(node: &mut [u32], s: Settings, goal: Goal, b: u32)
     requires { Aims s node.old goal }
     ensures { node.new ≡ appended_to s node.old goal b }
@@ -100,11 +136,11 @@ fn append_to(node: &mut [u32], s: Settings, goal: Goal, b: u32)
     match goal {
         Goal::Task(q) => {
             let at = layout::task_at(s, q);
-            gaps::append(node, s, at, b);
+            let _ = gaps::append(node, s, at, b);
         }
         Goal::Node(k) => {
             let at = layout::send_at(s, k);
-            queues::append(node, queues::send_kind(s), at, b);
+            let _ = queues::append(node, queues::send_kind(s), at, b);
         }
     }
 }
@@ -115,7 +151,7 @@ fn put_in(node: &mut [u32], s: Settings, goal: Goal, header: Header, body: &[u32
     ensures { node.new ≡ put_in s node.old goal (letter_of header body.now) }
 {
     let n = blocks::needs_of(s, 5 + body.len());
-    let Taken::First(first) = blocks::take(node, s, n) else {
+    let Some(first) = blocks::take(node, s, n) else {
         return;
     };
     letters::write(node, s, first, header, body);
@@ -123,20 +159,25 @@ fn put_in(node: &mut [u32], s: Settings, goal: Goal, header: Header, body: &[u32
 }
 
 // Puts a letter into the stretch, or counts what was wanting: blocks, or room in the queue.
-pub fn post(node: &mut [u32], s: Settings, goal: Goal, header: Header, body: &[u32]) -> Sent
+pub fn post(
+    node: &mut [u32],
+    s: Settings,
+    goal: Goal,
+    header: Header,
+    body: &[u32],
+) -> Result<Sent, SendRefusal>
     requires { Posts s node.old goal (header_words + length body.now) }
     ensures { record { answer = result; stretch = node.new } ≡ posted s node.old goal (letter_of header body.now) }
 {
     let n = blocks::needs_of(s, 5 + body.len());
-    let took = n as u32;
     if !has_blocks(node, s, n) {
         queues::count_up(node, 1);
-        return Sent::TooFewBlocks;
+        return Err(SendRefusal::TooFewBlocks);
     }
     if !has_room(node, s, goal) {
         count_full(node, s, goal);
-        return Sent::QueueFull;
+        return Err(SendRefusal::QueueFull);
     }
     put_in(node, s, goal, header, body);
-    Sent::Done(took)
+    Ok(Sent { blocks: n as u32 })
 }

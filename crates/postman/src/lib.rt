@@ -6,15 +6,15 @@ ghost use Rattle.layout.specs.Places.{nodes, nodes_at};
 ghost use Rattle.postman.specs.Position.{stopped_at, rested_at, position_of, kept};
 ghost use Rattle.postman.specs.Round.{at_start, stopped, one_letter, blocks_back};
 
-// How a stage ends: done, or stopped with the refusal's number.
-#[derive(Clone, Copy)]
+// How a stage ends: done, or stopped with the refusal's number; the form that docs/DECISIONS.md names, so no Result.
+#[derive(Clone, Copy, Debug, PartialEq, Eq)]
 pub enum Stage {
     Done,
     Stopped(u32),
 }
 
-// Where a postman stands: stage, other node, held block.
-#[derive(Clone, Copy)]
+// Where a postman stands: stage, other node, held block, as the memory has them: any memory has words here, so the stage is a number.
+#[derive(Clone, Copy, Debug, PartialEq, Eq)]
 pub struct Position {
     pub stage: u32,
     pub other: u32,
@@ -22,7 +22,7 @@ pub struct Position {
 }
 
 // A turn so far: the position to keep, letters appended, blocks given back, how the last stage ended.
-#[derive(Clone, Copy)]
+#[derive(Clone, Copy, Debug, PartialEq, Eq)]
 pub struct Round {
     pub position: Position,
     pub letters: u32,
@@ -61,7 +61,7 @@ pub fn keep(memory: &mut [u32], j: usize, p: Position)
     }
 }
 
-// The position at a stage, by value: the core.
+// The position at a stage, by value: the core. That it stands beside its twin by &mut is the form that docs/DECISIONS.md names.
 fn stopped_at(p: Position, stage: u32, other: u32, held: u32) -> Position
     ensures { result ≡ stopped_at p stage other held }
 {

@@ -1,4 +1,5 @@
 -- A queue as the list of its items: what append, drop, a store in it and a store outside it do to that list. Assumes nothing.
+use Rattle.std.specs.Prelude.{Err, Ok}
 use mathlib.Core.Path.{◌≡◌, refl, sym, ap, ◌∙◌}
 use mathlib.Core.Logic.{◌≢◌, ◌⊎◌, inl, inr, ⊎_elim}
 use mathlib.Core.List.{List, [], ◌∷◌, ◌++◌}
@@ -12,7 +13,6 @@ use borrow.Author.Tests.{lt-ltb, le-ltb}
 use Rattle.words.specs.Words.{more}
 use Rattle.words.proofs.Lists.{same?, le_or_lt}
 use Rattle.queues.specs.declared.Kind.{Kind}
-use Rattle.queues.specs.declared.Appended.TheVariants.{Done, Full}
 use Rattle.queues.specs.Queue.{start, items, slot_from, slot_at, item_at, run, contents, Placed, Queue}
 use Rattle.queues.specs.Moves.{counted, added, appended, append_answer, dropped}
 use Rattle.queues.proofs.Round.{places_apart}
@@ -182,11 +182,11 @@ module _ (k : Kind) (l : List ℕ) (q : ℕ) (xs : List ℕ) (r : Ring k l q xs)
   unfolding appended
   ring_full x h = rw (le-ltb (items k l q) k.slots (omega (arith, r.count)))
 
-  pub answer-room : length xs < k.slots → append_answer k l q ≡ Done
+  pub answer-room : length xs < k.slots → append_answer k l q ≡ Ok tt
   unfolding append_answer
   answer-room h = rw (lt-ltb (items k l q) k.slots (omega (arith, r.count)))
 
-  pub answer_full : k.slots ≤ length xs → append_answer k l q ≡ Full
+  pub answer_full : k.slots ≤ length xs → append_answer k l q ≡ Err (record {})
   unfolding append_answer
   answer_full h = rw (le-ltb (items k l q) k.slots (omega (arith, r.count)))
 

@@ -1,4 +1,5 @@
 -- A task queue as the list of its items: the first is live and the flag is right; which stores keep that. Assumes nothing.
+use Rattle.std.specs.Prelude.{Err, Ok}
 use mathlib.Core.Path.{◌≡◌, sym, ap, ◌∙◌}
 use mathlib.Core.Logic.{inl, inr}
 use mathlib.Core.List.{List, [], ◌∷◌, ◌++◌}
@@ -9,7 +10,6 @@ use lib.Seq.{get_or-set_same, get_or-set_other}
 use Rattle.words.specs.Words.{more}
 use Rattle.settings.specs.declared.Settings.{Settings}
 use Rattle.layout.specs.Places.{gap_word, task_full_word}
-use Rattle.queues.specs.declared.Appended.TheVariants.{Done, Full}
 use Rattle.queues.specs.Queue.{contents, task_kind}
 use Rattle.queues.specs.Moves.{counted, added, appended, append_answer}
 use Rattle.queues.specs.Items.{gap_flag}
@@ -73,11 +73,11 @@ module _ (s : Settings) (l : List ℕ) (q : ℕ) (xs : List ℕ) (t : TaskRing s
       first (y ∷ xs) f = λ g e. f (omega arith) e
 
   -- AN APPEND, by whether there is room
-  pub task_room : (x : ℕ) → (x ≡ 0 → ⊥) → length xs < s.t → TaskRing s (appended (task_kind s) l q x) q (xs ++ x ∷ []) × (append_answer (task_kind s) l q ≡ Done)
+  pub task_room : (x : ℕ) → (x ≡ 0 → ⊥) → length xs < s.t → TaskRing s (appended (task_kind s) l q x) q (xs ++ x ∷ []) × (append_answer (task_kind s) l q ≡ Ok tt)
   task_room x n h =
       (rw (ring_room (task_kind s) l q xs t.ring x h) (task_added x n h), answer-room (task_kind s) l q xs t.ring h)
 
-  pub task_full : (x : ℕ) → s.t ≤ length xs → TaskRing s (appended (task_kind s) l q x) q xs × (append_answer (task_kind s) l q ≡ Full)
+  pub task_full : (x : ℕ) → s.t ≤ length xs → TaskRing s (appended (task_kind s) l q x) q xs × (append_answer (task_kind s) l q ≡ Err (record {}))
   task_full x h =
       (rw (ring_full (task_kind s) l q xs t.ring x h) (task_counted task_full_word (omega arith) (omega arith)), answer_full (task_kind s) l q xs t.ring h)
 

@@ -1,10 +1,9 @@
 -- What append and drop do to a queue of any kind, and what they answer: 'Send', 'Receive', 'What comes back'.
-use Rattle.std.specs.Prelude.{◌≡◌, cond, List, ℕ, ◌+◌, ◌-◌, ◌%◌, ◌≤◌, ◌<◌, ltb, get_or, set}
+use Rattle.std.specs.Prelude.{◌≡◌, cond, List, ℕ, ◌+◌, ◌-◌, ◌%◌, ◌≤◌, ◌<◌, ltb, get_or, set, Err, Ok, Result}
 use Rattle.words.specs.Words.{more}
 use Rattle.layout.specs.Places.{items_word}
 use Rattle.queues.specs.declared.Kind.{Kind}
-use Rattle.queues.specs.declared.Appended.{Appended}
-use Rattle.queues.specs.declared.Appended.TheVariants.{Done, Full}
+use Rattle.queues.specs.declared.Full.{Full}
 use Rattle.queues.specs.Queue.{start, items, slot_at, slot_from}
 
 -- the count at a word one higher
@@ -20,8 +19,8 @@ module _ (k : Kind) (node : List ℕ) (q : ℕ) where
   unfoldable pub appended : ℕ → List ℕ
   appended x = cond (ltb (items k node q) k.slots) (added x) (counted node (q + k.full))
 
-  unfoldable pub append_answer : Appended
-  append_answer = cond (ltb (items k node q) k.slots) Done Full
+  unfoldable pub append_answer : Result Unit Full
+  append_answer = cond (ltb (items k node q) k.slots) (Ok tt) (Err (record {}))
 
   -- 'A dropped item's slot becomes 0 and the start moves on'
   unfoldable pub dropped : List ℕ

@@ -16,18 +16,16 @@ use settings::Settings;
 use words::one_more;
 
 // A kind of queue: the words before its slots, its slots, and the word that counts the appends that found it full.
-#[derive(Clone, Copy)]
+#[derive(Clone, Copy, Debug, PartialEq, Eq)]
 pub struct Kind {
     pub head: usize,
     pub slots: usize,
     pub full: usize,
 }
 
-#[derive(Clone, Copy)]
-pub enum Appended {
-    Done,
-    Full,
-}
+// Why an append was refused: the queue is at its length.
+#[derive(Clone, Copy, Debug, PartialEq, Eq)]
+pub struct Full;
 
 // The send queues' kind.
 pub fn send_kind(s: Settings) -> Kind
@@ -104,7 +102,7 @@ pub fn item(node: &[u32], k: Kind, q: usize, i: usize) -> u32
 }
 
 // Puts an item behind the last, or counts that there was no room.
-pub fn append(node: &mut [u32], k: Kind, q: usize, item: u32) -> Appended
+pub fn append(node: &mut [u32], k: Kind, q: usize, item: u32) -> Result<(), Full>
     requires { Queue k node.old q }
     ensures { (node.new ≡ appended k node.old q item) × (result ≡ append_answer k node.old q) }
 {
@@ -114,11 +112,11 @@ pub fn append(node: &mut [u32], k: Kind, q: usize, item: u32) -> Appended
         let at = slot_at(k, q, first, count as usize);
         node[at] = item;
         node[q + 1] = count + 1;
-        Appended::Done
+        Ok(())
     } else {
         let full = q + k.full;
         count_up(node, full);
-        Appended::Full
+        Err(Full)
     }
 }
 

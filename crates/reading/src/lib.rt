@@ -12,11 +12,11 @@ pub struct Reader<'a> {
     pub left: usize,
 }
 
-// What a step tells: how many of the words left the block carries, and the block that follows; or that none is left.
-#[derive(Clone, Copy)]
-pub enum Step {
-    Words(usize, u32),
-    End,
+// What a step tells: how many of the words left the block carries, and the block that follows.
+#[derive(Clone, Copy, Debug, PartialEq, Eq)]
+pub struct Step {
+    pub words: usize,
+    pub next: u32,
 }
 
 // How many of `left` words stand in a block from its word `at` on, where it carries `room`.
@@ -31,20 +31,24 @@ fn carried(left: usize, at: usize, room: usize) -> usize
     }
 }
 
-// The work: the step at word `at` of a block that carries `room` words, where the blocks follow word `before`.
-pub fn step_at(node: &[u32], block: u32, left: usize, at: usize, before: u32, room: u32) -> Step
+// The work: the step at word `at` of a block that carries `room` words, where the blocks follow word `before`; none where no word is left.
+pub fn step_at(
+    node: &[u32],
+    block: u32,
+    left: usize,
+    at: usize,
+    before: u32,
+    room: u32,
+) -> Option<Step>
     ensures { result ≡ step_at node.now block left at before room }
 {
     if left == 0 {
-        return Step::End;
+        return None;
     }
     let words = carried(left, at, room as usize);
     let link = before as usize + block as usize * (room as usize + 1);
-    if link < node.len() {
-        Step::Words(words, node[link])
-    } else {
-        Step::Words(words, 0)
-    }
+    let next = if link < node.len() { node[link] } else { 0 };
+    Some(Step { words, next })
 }
 
 pub fn new<'a>(node: &'a [u32], block: u32, left: usize) -> Reader<'a>
@@ -53,14 +57,21 @@ pub fn new<'a>(node: &'a [u32], block: u32, left: usize) -> Reader<'a>
     Reader { node, block, left }
 }
 
-pub fn next<'a>(r: Reader<'a>, at: usize, before: u32, room: u32) -> Step
+pub fn next<'a>(r: Reader<'a>, at: usize, before: u32, room: u32) -> Option<Step>
     ensures { result ≡ step_at r.entry.node.now r.entry.block r.entry.left at before room }
 {
     step_at(r.node, r.block, r.left, at, before, room)
 }
 
 // Plain parameters: whoever calls this holds no reader.
-pub fn first(node: &[u32], block: u32, left: usize, at: usize, before: u32, room: u32) -> Step
+pub fn first(
+    node: &[u32],
+    block: u32,
+    left: usize,
+    at: usize,
+    before: u32,
+    room: u32,
+) -> Option<Step>
     ensures { result ≡ step_at node.now block left at before room }
 {
     next(new(node, block, left), at, before, room)

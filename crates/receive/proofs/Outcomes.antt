@@ -1,4 +1,5 @@
 -- What receive answers and leaves, by the tests on the way. Assumes nothing.
+use Rattle.std.specs.Prelude.{Err, None, Ok, Result, Some}
 use mathlib.Core.Path.{◌≡◌, refl, sym, ap, ◌∙◌}
 use mathlib.Core.Bool.{true, false, cond}
 use mathlib.Core.List.{List}
@@ -13,13 +14,13 @@ use Rattle.layout.specs.Numbers.{header_words, source_task_word}
 use Rattle.queues.specs.Queue.{task_kind, items, item_at, contents}
 use Rattle.queues.specs.Moves.{counted}
 use Rattle.queues.proofs.Views.{length-contents, contents_item}
-use Rattle.taking.specs.declared.Found.TheVariants.{At, Nothing}
 use Rattle.taking.specs.Find.{wanted, found, Findable}
 use Rattle.taking.proofs.First.{found_at, wanted-live}
 use Rattle.letters.specs.Letter.{word, onto}
 use Rattle.sound.specs.Letters.{words_from}
 use Rattle.receive.specs.declared.Received.{Received}
-use Rattle.receive.specs.declared.Received.TheVariants.{Done, NoLetter, NoLetterQueueFull, OutTooShort}
+use Rattle.receive.specs.declared.ReceiveRefusal.{ReceiveRefusal}
+use Rattle.receive.specs.declared.ReceiveRefusal.TheVariants.{NoLetter, NoLetterQueueFull, OutTooShort}
 use Rattle.receive.specs.Take.{Took, filled, in_vain, emptied, took_at, took}
 use Rattle.receive.specs.Asked.{Whole, Holds, Kept}
 use Rattle.receive.proofs.Bodies.{word_source}
@@ -35,13 +36,13 @@ module _ (s : Settings) (w : List ℕ) (q source : ℕ) where
   filled_one h a e = rw (ne_eqb source 0 h, e, a)
 
   -- no such letter
-  abbrev refused : Received
-  refused = cond (filled s w q source) NoLetterQueueFull NoLetter
+  abbrev refused : Result Received ReceiveRefusal
+  refused = cond (filled s w q source) (Err NoLetterQueueFull) (Err NoLetter)
 
-  pub vain_filled : filled s w q source ≡ true → NoLetterQueueFull ≡ refused
+  pub vain_filled : filled s w q source ≡ true → (Err NoLetterQueueFull) ≡ refused
   vain_filled e = rw e
 
-  pub vain_not : filled s w q source ≡ false → NoLetter ≡ refused
+  pub vain_not : filled s w q source ≡ false → (Err NoLetter) ≡ refused
   vain_not e = rw e
 
   -- the count of the queue at its place
@@ -49,7 +50,7 @@ module _ (s : Settings) (w : List ℕ) (q source : ℕ) where
   vain_counted a e = e ∙ ap (λ (x : ℕ). counted w (x + 4)) a
 
 -- what taking answers and leaves
-abbrev pub left : Received → List ℕ → List ℕ → Took
+abbrev pub left : Result Received ReceiveRefusal → List ℕ → List ℕ → Took
 left a m o = record { answer = a; stretch = m; out = o }
 
 -- ---- the letter at place k, whose first block is b
@@ -61,12 +62,12 @@ module _ (s : Settings) (w : List ℕ) (q k : ℕ) (h : Holds s w q k) {b : ℕ}
     words : n ≡ length (drop header_words (words_from s w (item_at (task_kind s) w (task_at s q) k)))
     words = rw e at d
 
-    pub at_short : length out < n → left OutTooShort w out ≡ took_at s w q 0 k out
+    pub at_short : length out < n → left (Err OutTooShort) w out ≡ took_at s w q 0 k out
     unfolding took_at
     at_short g = rw (← words, lt-leb n (length out) g)
 
     pub at_done : n ≤ length out → {source : ℕ} {m o : List ℕ} → source ≡ word s w b source_task_word → m ≡ emptied s w q 0 k
-        → o ≡ onto (drop header_words (words_from s w b)) out → left (Done source n) m o ≡ took_at s w q 0 k out
+        → o ≡ onto (drop header_words (words_from s w b)) out → left (Ok (record { source = source; words = n })) m o ≡ took_at s w q 0 k out
     unfolding took_at
     at_done g x y z = rw (← words, le-leb n (length out) g, x, word_source s w b holds-whole, y, z, e)
 
@@ -75,8 +76,8 @@ module _ (s : Settings) (w : List ℕ) (q source : ℕ) (h : Kept s w q) {at : �
   pub kept_findable : Findable s w at
   kept_findable = rw a (record { stretch = h.stretch; queue = h.queue; blocks = h.blocks })
 
-  module _ (k : ℕ) (e : found s w at source ≡ At k) where
-    here : found s w (task_at s q) source ≡ At k
+  module _ (k : ℕ) (e : found s w at source ≡ Some k) where
+    here : found s w (task_at s q) source ≡ Some k
     here = rw a at e
 
     pub found-holds : Holds s w q k
@@ -95,11 +96,11 @@ module _ (s : Settings) (w : List ℕ) (q source : ℕ) (h : Kept s w q) {at : �
     unfolding took_at emptied
     any_source out = refl
 
-    pub found-took : (out : List ℕ) {r : Received} {m o : List ℕ} → left r m o ≡ took_at s w q 0 k out → left r m o ≡ took s w q source out
+    pub found-took : (out : List ℕ) {r : Result Received ReceiveRefusal} {m o : List ℕ} → left r m o ≡ took_at s w q 0 k out → left r m o ≡ took s w q source out
     unfolding took
     found-took out f = f ∙ any_source out ∙ rw here
 
-  pub vain_took : (out : List ℕ) → found s w at source ≡ Nothing → {r : Received} {m : List ℕ} → r ≡ refused s w q source
+  pub vain_took : (out : List ℕ) → found s w at source ≡ None → {r : Result Received ReceiveRefusal} {m : List ℕ} → r ≡ refused s w q source
       → m ≡ counted w (task_at s q + empty_word) → left r m out ≡ took s w q source out
   unfolding took in_vain
-  vain_took out e f g = let z : found s w (task_at s q) source ≡ Nothing = rw a at e in rw (z, f, g)
+  vain_took out e f g = let z : found s w (task_at s q) source ≡ None = rw a at e in rw (z, f, g)

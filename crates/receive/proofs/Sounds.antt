@@ -1,4 +1,5 @@
 -- What a sound memory gives to receive, the stretch that is lent and comes back, and the call's outcome by the tests on the way. Assumes nothing.
+use Rattle.std.specs.Prelude.{Err, Result}
 use mathlib.Core.Path.{◌≡◌, ap, ◌∙◌}
 use mathlib.Core.Bool.{true, false, ◌||◌}
 use mathlib.Core.List.{List}
@@ -15,7 +16,7 @@ use Rattle.layout.proofs.Fits.{nodes_fit}
 use Rattle.layout.proofs.MemoryRows.{stretch-fits}
 use Rattle.tasks.specs.Table.{node_of, queue_of, is_bound}
 use Rattle.tasks.specs.Seat.{seat_of}
-use Rattle.tasks.specs.declared.Seat.TheVariants.{At}
+use Rattle.std.specs.Prelude.{Some}
 use Rattle.queues.specs.Queue.{Queue, task_kind, items, item_at}
 use Rattle.queues.proofs.Views.{length-contents, contents_item}
 use Rattle.sound.specs.Reading.{settings_in, table_in, task_items}
@@ -23,7 +24,8 @@ use Rattle.sound.specs.Sound.{sound}
 use Rattle.sound.proofs.Gives.{gives_table, gives_sized, gives_stretch, gives_task}
 use Rattle.sound.proofs.Held.{task_most, task_right}
 use Rattle.receive.specs.declared.Received.{Received}
-use Rattle.receive.specs.declared.Received.TheVariants.{DestinationNotBound, SourceNotBound}
+use Rattle.receive.specs.declared.ReceiveRefusal.{ReceiveRefusal}
+use Rattle.receive.specs.declared.ReceiveRefusal.TheVariants.{DestinationNotBound, SourceNotBound}
 use Rattle.receive.specs.Take.{Took, took}
 use Rattle.receive.specs.Outcome.{Outcome, collected, receive}
 use Rattle.receive.specs.Asked.{Whole, Kept, Seated, Collects}
@@ -65,7 +67,7 @@ module _ (m : List ℕ) (e : sound m ≡ true) (i q : ℕ) (h : i < 6) (g : q < 
       }
 
 -- where a bound task sits
-pub seat-seated : (m : List ℕ) → sound m ≡ true → (task i q : ℕ) → seat_of (table_in m) task ≡ At i q → Seated m i q
+pub seat-seated : (m : List ℕ) → sound m ≡ true → (task i q : ℕ) → seat_of (table_in m) task ≡ Some (record { node = i; queue = q }) → Seated m i q
 seat-seated m e task i q f =
     let b = told_at (table_in m) task i q f in
     let r = seat_below (table_in m) task (gives_table m e) b.0 in
@@ -87,7 +89,7 @@ module _ (m : List ℕ) (i q : ℕ) (h : Seated m i q) where
     pub lent-kept : Kept s (part m a (a + n)) q
     lent-kept = rw (x, y, e) h.kept
 
-    pub lent_back : (source : ℕ) (out : List ℕ) {r : Received} {p o : List ℕ} → left r p o ≡ took s (part m a (a + n)) q source out
+    pub lent_back : (source : ℕ) (out : List ℕ) {r : Result Received ReceiveRefusal} {p o : List ℕ} → left r p o ≡ took s (part m a (a + n)) q source out
         → Collects m i q source out r (put_mid a (a + n - a) m p) o
     lent_back source out {r} {p} {o} f =
         let t : left r p o ≡ took (settings_in m) (node (settings_in m) m i) q source out = rw (x, y, e) at f in
@@ -99,20 +101,20 @@ module _ (m : List ℕ) (i q : ℕ) (h : Seated m i q) where
         }
 
 -- ---- the outcome
-abbrev whole : Received → List ℕ → List ℕ → Outcome
+abbrev whole : Result Received ReceiveRefusal → List ℕ → List ℕ → Outcome
 whole r m o = record { answer = r; memory = m; out = o }
 
 module _ (m : List ℕ) (destination source : ℕ) (out : List ℕ) (e : sound m ≡ true) where
-  pub refused_first : is_bound (table_in m) destination ≡ false → whole DestinationNotBound m out ≡ receive m destination source out
+  pub refused_first : is_bound (table_in m) destination ≡ false → whole (Err DestinationNotBound) m out ≡ receive m destination source out
   unfolding receive
   refused_first f = rw (e, f)
 
   module _ (f : is_bound (table_in m) destination ≡ true) where
-    pub refused_other : (eqb source 0 || is_bound (table_in m) source) ≡ false → whole SourceNotBound m out ≡ receive m destination source out
+    pub refused_other : (eqb source 0 || is_bound (table_in m) source) ≡ false → whole (Err SourceNotBound) m out ≡ receive m destination source out
     unfolding receive
     refused_other g = rw (e, f, g)
 
     pub received_is : (eqb source 0 || is_bound (table_in m) source) ≡ true → {i q : ℕ} → i ≡ node_of (table_in m) destination → q ≡ queue_of (table_in m) destination
-        → {r : Received} {after given : List ℕ} → Collects m i q source out r after given → whole r after given ≡ receive m destination source out
+        → {r : Result Received ReceiveRefusal} {after given : List ℕ} → Collects m i q source out r after given → whole r after given ≡ receive m destination source out
     unfolding receive collected
     received_is g x y c = rw (e, f, g, c.answer, c.stored, c.got, x, y)

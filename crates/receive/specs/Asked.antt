@@ -1,5 +1,5 @@
 -- What a sound memory gives, and the functions of receive ask for.
-use Rattle.std.specs.Prelude.{◌≡◌, true, List, ℕ, ◌≤◌, ◌<◌, length, drop}
+use Rattle.std.specs.Prelude.{◌≡◌, true, List, ℕ, ◌≤◌, ◌<◌, length, drop, Result}
 use Rattle.settings.specs.declared.Settings.{Settings}
 use Rattle.layout.specs.Places.{nodes, task_queues, task_at, node, with_node}
 use Rattle.layout.specs.Numbers.{header_words}
@@ -9,6 +9,7 @@ use Rattle.taking.specs.Take.{Place}
 use Rattle.sound.specs.Reading.{settings_in}
 use Rattle.sound.specs.Letters.{ends_well, words_from, right_length}
 use Rattle.receive.specs.declared.Received.{Received}
+use Rattle.receive.specs.declared.ReceiveRefusal.{ReceiveRefusal}
 use Rattle.receive.specs.Take.{took}
 
 -- the letter that block b begins ends well and has a right length
@@ -51,7 +52,7 @@ pub record Seated (memory : List ℕ) (i q : ℕ) : Type 0 where
   pub kept : Kept (settings_in memory) (node (settings_in memory) memory i) q
 
 -- what taking a letter out of queue q of node i answers, and the memory and out after it
-pub record Collects (memory : List ℕ) (i q source : ℕ) (out : List ℕ) (r : Received) (after given : List ℕ) : Type 0 where
+pub record Collects (memory : List ℕ) (i q source : ℕ) (out : List ℕ) (r : Result Received ReceiveRefusal) (after given : List ℕ) : Type 0 where
   pub answer : r ≡ (took (settings_in memory) (node (settings_in memory) memory i) q source out).answer
   pub stored : after ≡ with_node (settings_in memory) memory i (took (settings_in memory) (node (settings_in memory) memory i) q source out).stretch
   pub got : given ≡ (took (settings_in memory) (node (settings_in memory) memory i) q source out).out

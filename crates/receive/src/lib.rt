@@ -1,7 +1,7 @@
 // Receive: the call that takes a letter from a task queue and gives its blocks back.
 #![tactic(auto)]
 
-ghost use Rattle.std.specs.Prelude.{◌≡◌, true, cond, ◌||◌, ◌+◌, ◌≤◌, eqb, length, drop};
+ghost use Rattle.std.specs.Prelude.{◌≡◌, true, cond, Ok, Err, ◌||◌, ◌+◌, ◌≤◌, eqb, length, drop};
 ghost use Rattle.layout.specs.Places.{setting_words, nodes_at, task_at, empty_word};
 ghost use Rattle.layout.specs.Numbers.{header_words};
 ghost use Rattle.queues.specs.Queue.{task_kind, item_at};
@@ -17,13 +17,17 @@ ghost use Rattle.receive.specs.Asked.{Whole, Fits, Holds, Leaves, Kept, Seated, 
 
 use answers::Answer;
 use settings::Settings;
-use taking::Found;
-use tasks::Seat;
 
-// What a receive answers: the source and the body's length, or why not.
-#[derive(Clone, Copy)]
-pub enum Received {
-    Done(u32, u32),
+// What a receive that is done answers: the source, and the words of the body.
+#[derive(Clone, Copy, Debug, PartialEq, Eq)]
+pub struct Received {
+    pub source: u32,
+    pub words: u32,
+}
+
+// Why a receive was refused.
+#[derive(Clone, Copy, Debug, PartialEq, Eq)]
+pub enum ReceiveRefusal {
     NotSound,
     DestinationNotBound,
     SourceNotBound,
@@ -32,23 +36,33 @@ pub enum Received {
     OutTooShort,
 }
 
-// The answer's number and values.
-pub fn number_of(answer: Received) -> Answer
-    ensures { result ≡ told answer }
-{
-    match answer {
-        Received::Done(source, words) => Answer {
+// The source and the body's length.
+impl From<Received> for Answer {
+    ghost from_gives = { λ received a. a ≡ told (Ok received) };
+
+    fn from(received: Received) -> Answer {
+        Answer {
             number: 0,
-            first: source,
-            second: words,
+            first: received.source,
+            second: received.words,
             third: 0,
-        },
-        Received::NotSound => answers::bare(1),
-        Received::DestinationNotBound => answers::bare(2),
-        Received::SourceNotBound => answers::bare(3),
-        Received::NoLetter => answers::bare(7),
-        Received::NoLetterQueueFull => answers::bare(8),
-        Received::OutTooShort => answers::bare(9),
+        }
+    }
+}
+
+// The number of each refusal.
+impl From<ReceiveRefusal> for Answer {
+    ghost from_gives = { λ refusal a. a ≡ told (Err refusal) };
+
+    fn from(refusal: ReceiveRefusal) -> Answer {
+        answers::bare(match refusal {
+            ReceiveRefusal::NotSound => 1,
+            ReceiveRefusal::DestinationNotBound => 2,
+            ReceiveRefusal::SourceNotBound => 3,
+            ReceiveRefusal::NoLetter => 7,
+            ReceiveRefusal::NoLetterQueueFull => 8,
+            ReceiveRefusal::OutTooShort => 9,
+        })
     }
 }
 
@@ -66,19 +80,19 @@ fn is_filled(node: &[u32], s: Settings, q: usize, source: u32) -> bool
 }
 
 // No such letter: 8 before 7, and the empty count rises.
-fn in_vain(node: &mut [u32], s: Settings, q: usize, source: u32) -> Received
+fn in_vain(node: &mut [u32], s: Settings, q: usize, source: u32) -> Result<Received, ReceiveRefusal>
     requires { Kept s node.old q }
-    ensures answer { result ≡ cond (filled s node.old q source) Received.NoLetterQueueFull Received.NoLetter }
+    ensures answer { result ≡ cond (filled s node.old q source) (Err ReceiveRefusal.NoLetterQueueFull) (Err ReceiveRefusal.NoLetter) }
     ensures stored { node.new ≡ counted node.old (task_at s q + empty_word) }
 {
     let filled = is_filled(node, s, q, source);
     let at = layout::task_at(s, q);
     queues::count_up(node, at + 4);
-    if filled {
-        Received::NoLetterQueueFull
+    Err(if filled {
+        ReceiveRefusal::NoLetterQueueFull
     } else {
-        Received::NoLetter
-    }
+        ReceiveRefusal::NoLetter
+    })
 }
 
 // The first block of the letter at place k of task queue q.
@@ -118,7 +132,13 @@ fn empty(node: &mut [u32], s: Settings, q: usize, k: usize, b: u32, n: usize)
 }
 
 // The letter at place k of task queue q goes to out, where there is room for its body.
-fn take_at(node: &mut [u32], s: Settings, q: usize, k: usize, out: &mut [u32]) -> Received
+fn take_at(
+    node: &mut [u32],
+    s: Settings,
+    q: usize,
+    k: usize,
+    out: &mut [u32],
+) -> Result<Received, ReceiveRefusal>
     requires { Holds s node.old q k }
     ensures { record { answer = result; stretch = node.new; out = out.new } ≡ took_at s node.old q 0 k out.old }
 {
@@ -126,29 +146,43 @@ fn take_at(node: &mut [u32], s: Settings, q: usize, k: usize, out: &mut [u32]) -
     let length = body_length(node, s, b);
     let n = length as usize;
     if out.len() < n {
-        return Received::OutTooShort;
+        return Err(ReceiveRefusal::OutTooShort);
     }
     let source = letters::word_of(node, s, b, 0);
     read_body(node, s, b, n, out);
     empty(node, s, q, k, b, n);
-    Received::Done(source, length)
+    Ok(Received {
+        source,
+        words: length,
+    })
 }
 
 // Takes the first letter from the source, or the first of all where the source is 0, out of task queue q.
-fn take_letter(node: &mut [u32], s: Settings, q: usize, source: u32, out: &mut [u32]) -> Received
+fn take_letter(
+    node: &mut [u32],
+    s: Settings,
+    q: usize,
+    source: u32,
+    out: &mut [u32],
+) -> Result<Received, ReceiveRefusal>
     requires { Kept s node.old q }
     ensures { record { answer = result; stretch = node.new; out = out.new } ≡ took s node.old q source out.old }
 {
     let at = layout::task_at(s, q);
-    let found = taking::find(node, s, at, source);
-    match found {
-        Found::At(k) => take_at(node, s, q, k, out),
-        Found::Nothing => in_vain(node, s, q, source),
+    match taking::find(node, s, at, source) {
+        Some(k) => take_at(node, s, q, k, out),
+        None => in_vain(node, s, q, source),
     }
 }
 
 // Takes a letter out of queue q of node i, whose stretch is lent.
-fn collect(memory: &mut [u32], i: usize, q: usize, source: u32, out: &mut [u32]) -> Received
+fn collect(
+    memory: &mut [u32],
+    i: usize,
+    q: usize,
+    source: u32,
+    out: &mut [u32],
+) -> Result<Received, ReceiveRefusal>
     requires { Seated memory.old i q }
     ensures { Collects memory.old i q source out.old result memory.new out.new }
 {
@@ -166,34 +200,39 @@ fn is_known(memory: &[u32], source: u32) -> bool
     if source == 0 {
         return true;
     }
-    let seat = tasks::seat_of(&memory[24..536], source);
-    let Seat::At(_, _) = seat else {
-        return false;
-    };
-    true
+    tasks::seat_of(layout::table(memory), source).is_some()
 }
 
 // Receive, on a sound memory.
-fn receive_sound(memory: &mut [u32], destination: u32, source: u32, out: &mut [u32]) -> Received
+fn receive_sound(
+    memory: &mut [u32],
+    destination: u32,
+    source: u32,
+    out: &mut [u32],
+) -> Result<Received, ReceiveRefusal>
     requires { sound memory.old ≡ true }
     ensures { record { answer = result; memory = memory.new; out = out.new } ≡ receive memory.old destination source out.old }
 {
-    let seat = tasks::seat_of(&memory[24..536], destination);
-    let Seat::At(i, q) = seat else {
-        return Received::DestinationNotBound;
+    let Some(seat) = tasks::seat_of(layout::table(memory), destination) else {
+        return Err(ReceiveRefusal::DestinationNotBound);
     };
     if !is_known(memory, source) {
-        return Received::SourceNotBound;
+        return Err(ReceiveRefusal::SourceNotBound);
     }
-    collect(memory, i as usize, q as usize, source, out)
+    collect(memory, seat.node as usize, seat.queue as usize, source, out)
 }
 
 // Receive, for any memory, any two task numbers and any out.
-pub fn receive(memory: &mut [u32], destination: u32, source: u32, out: &mut [u32]) -> Received
+pub fn receive(
+    memory: &mut [u32],
+    destination: u32,
+    source: u32,
+    out: &mut [u32],
+) -> Result<Received, ReceiveRefusal>
     ensures { record { answer = result; memory = memory.new; out = out.new } ≡ receive memory.old destination source out.old }
 {
     if !soundness::is_sound(memory) {
-        return Received::NotSound;
+        return Err(ReceiveRefusal::NotSound);
     }
     receive_sound(memory, destination, source, out)
 }

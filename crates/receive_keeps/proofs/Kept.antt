@@ -1,4 +1,5 @@
 -- Taking a letter, from a sound memory to the machine that the memory spells after it: nothing found, and a letter found. Assumes nothing.
+use Rattle.std.specs.Prelude.{None, Some}
 use mathlib.Core.Path.{◌≡◌, refl, sym, ap, ap₂, ◌∙◌, subst}
 use mathlib.Core.Bool.{Bool, true, false, cond, ◌||◌}
 use mathlib.Core.List.{List, [], ◌∷◌, map}
@@ -17,7 +18,6 @@ use Rattle.queues.specs.Queue.{task_kind, contents}
 use Rattle.queues.specs.Moves.{counted}
 use Rattle.queues.proofs.Ring.{Ring, ring_contents}
 use Rattle.taking.specs.Take.{taken_out}
-use Rattle.taking.specs.declared.Found.TheVariants.{At, Nothing}
 use Rattle.taking.specs.Find.{from, wanted, found}
 use Rattle.taking.proofs.First.{IsFirst, found_at, found_nothing, wanted-live}
 use Rattle.sound.specs.Reading.{settings_in, table_in, task_items}
@@ -78,7 +78,7 @@ module _ (s : Settings) (memory : List ℕ) (m : Machine) (rep : RepresentsAt s 
       (ap (λ (x : ℕ). cond (eqb source 0) true (eqb x source)) e ∙ or_cond (eqb source 0) (eqb (get_or K.words 0 0) source))
 
   -- nothing is found where none is asked for
-  pub found_none : found s (node s memory i) (task_at s q) source ≡ Nothing → NoneAsked m i q source
+  pub found_none : found s (node s memory i) (task_at s q) source ≡ None → NoneAsked m i q source
   found_none f =
       let p : (n : ℕ) → n < length (firsts ks) → wanted s (node s memory i) source (get_or (firsts ks) n 0) ≡ false =
       subst (λ (xs : List ℕ). (n : ℕ) → n < length xs → wanted s (node s memory i) source (get_or xs n 0) ≡ false) items_are
@@ -87,7 +87,7 @@ module _ (s : Settings) (memory : List ℕ) (m : Machine) (rep : RepresentsAt s 
       (ones_before (λ (L : Letter). asked source L ≡ false) (length ks) ks (λ j a b v.
       sym (wanted-asked j b v) ∙ ap (wanted s (node s memory i) source) (sym (firsts_at ks j)) ∙ p j (omega (arith, length-firsts ks))))
 
-  module _ (n : ℕ) (f : found s (node s memory i) (task_at s q) source ≡ At n) where
+  module _ (n : ℕ) (f : found s (node s memory i) (task_at s q) source ≡ Some n) where
     is_first : IsFirst (wanted s (node s memory i) source) (firsts ks) n
     is_first = subst (λ (xs : List ℕ). IsFirst (wanted s (node s memory i) source) xs n) items_are (found_at (wanted s (node s memory i) source) (contents (task_kind s) (node s memory i) (task_at s q)) n f)
 
@@ -154,7 +154,7 @@ module _ (memory : List ℕ) (e : sound memory ≡ true) (i q : ℕ) (h : i < 6)
   pub vain_fixed : Fixed memory (with_node (settings_in memory) memory i (counted (node (settings_in memory) memory i) (task_at (settings_in memory) q + empty_word)))
   vain_fixed = fixed_with memory rep.size i h (counted l (task_at s q + 4)) (long_empty s memory m rep i q h g)
 
-  pub vain_none : (source : ℕ) → found (settings_in memory) (node (settings_in memory) memory i) (task_at (settings_in memory) q) source ≡ Nothing → NoneAsked (machine_of memory) i q source
+  pub vain_none : (source : ℕ) → found (settings_in memory) (node (settings_in memory) memory i) (task_at (settings_in memory) q) source ≡ None → NoneAsked (machine_of memory) i q source
   vain_none source f = found_none s memory m rep i q source h g f
 
   pub vain_sound : sound (with_node (settings_in memory) memory i (counted (node (settings_in memory) memory i) (task_at (settings_in memory) q + empty_word))) ≡ true
@@ -170,7 +170,7 @@ module _ (memory : List ℕ) (e : sound memory ≡ true) (i q : ℕ) (h : i < 6)
       }
 
   -- A LETTER FOUND
-  module _ (source n : ℕ) (f : found (settings_in memory) (node (settings_in memory) memory i) (task_at (settings_in memory) q) source ≡ At n) where
+  module _ (source n : ℕ) (f : found (settings_in memory) (node (settings_in memory) memory i) (task_at (settings_in memory) q) source ≡ Some n) where
     abbrev L : Letter
     L = get_or (((machine_of memory).node i).letters (13 + q)) n gap
 

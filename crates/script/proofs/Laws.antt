@@ -27,9 +27,9 @@ pub rising_next : (f n v w : ℕ) → v ≡ (f + n) % 4294967296 → w ≡ (v + 
 rising_next f n v w e g = g ∙ ap (λ (k : ℕ). (k + 1) % 4294967296) e ∙ mod-add-mod (f + n) 4294967296 1 ∙ ap (λ (k : ℕ). k % 4294967296) (add_assoc f n 1)
 
 -- a word more is in the sum
-pub summed_more : (h i : ℕ) (ws : List ℕ) (t : ℕ) → i < length ws → summed h (drop i ws) ≡ t → summed ((h * 31 + get_or ws i 0) % 4294967291) (drop (i + 1) ws) ≡ t
+pub summed_more : (h i w : ℕ) (ws : List ℕ) (t : ℕ) → i < length ws → w ≡ get_or ws i 0 → summed h (drop i ws) ≡ t → summed ((h * 31 + w) % 4294967291) (drop (i + 1) ws) ≡ t
 unfolding summed
-summed_more h i ws t l e = rw (add-one i) ((rw (drop-cons ws i 0 l) at e))
+summed_more h i w ws t l v e = rw (add-one i, v) ((rw (drop-cons ws i 0 l) at e))
 
 pub summed_all : (h i : ℕ) (ws : List ℕ) (t : ℕ) → length ws ≤ i → summed h (drop i ws) ≡ t → h ≡ t
 unfolding summed

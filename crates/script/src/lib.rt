@@ -7,25 +7,17 @@ ghost use Rattle.script.specs.Words.{rising, sum_of};
 use answers::Answer;
 use std::io;
 
-// What is read next: a word, the end, or an end in the midst of a word.
-#[derive(Clone, Copy)]
-pub enum Read {
-    Word(u32),
-    End,
-    Part,
+// Why a script is not read or played on: a read or a write failed, or the script is not of its format.
+#[derive(Debug, Drop)]
+pub enum ScriptError {
+    Io(io::Error),
+    Bad,
 }
 
-// The arguments of a kind, and whether they were all there.
-#[derive(Clone, Copy)]
-pub struct Arguments {
-    pub whole: bool,
-    pub words: [u32; 5],
-}
-
-fn wide(x: u8) -> u32
-    ensures { result ≤ 255 }
-{
-    x as u32
+impl From<io::Error> for ScriptError {
+    fn from(error: io::Error) -> ScriptError {
+        ScriptError::Io(error)
+    }
 }
 
 // Fills the bytes as far as the reader goes, and tells how far that is.
@@ -33,64 +25,44 @@ pub fn read_full<R: io::Read>(from: &mut R, bytes: &mut [u8]) -> io::Result<usiz
     ensures ok { IfOk result (λ n. n ≤ length bytes.new) }
     ensures err { OnErr result (length bytes.new ≡ length bytes.old) }
 {
+    // Each read fills as many bytes as it likes, so no range counts them.
     let mut at = 0;
     while at < bytes.len() {
-        let n = from.read(&mut bytes[at..])?;
-        if n == 0 {
-            return Ok(at);
+        match from.read(&mut bytes[at..])? {
+            0 => break,
+            n => at += n,
         }
-        at += n;
     }
     Ok(at)
 }
 
-// The next word, low byte first. (What is read no contract can say.)
-pub fn read_word<R: io::Read>(from: &mut R) -> io::Result<Read> {
-    let mut bytes = [0u8; 4];
-    let n = read_full(from, &mut bytes)?;
-    if n == 0 {
-        return Ok(Read::End);
+// The next word, low byte first, or none at the end. (What is read no contract can say.)
+pub fn read_word<R: io::Read>(from: &mut R) -> Result<Option<u32>, ScriptError> {
+    let mut bytes = [0; 4];
+    match read_full(from, &mut bytes)? {
+        0 => Ok(None),
+        4 => Ok(Some(u32::from_le_bytes(bytes))),
+        _ => Err(ScriptError::Bad),
     }
-    if n < 4 {
-        return Ok(Read::Part);
-    }
-    let low = wide(bytes[0]) + wide(bytes[1]) * 256;
-    let high = wide(bytes[2]) + wide(bytes[3]) * 256;
-    Ok(Read::Word(low + high * 65536))
 }
 
-// The next n words.
-pub fn read_arguments<R: io::Read>(from: &mut R, n: usize) -> io::Result<Arguments>
-    requires { n ≤ 5 }
-{
-    let mut words = [0u32; 5];
-    let mut i = 0;
-    while i < n {
-        let Read::Word(w) = read_word(from)? else {
-            return Ok(Arguments {
-                whole: false,
-                words,
-            });
-        };
-        words[i] = w;
-        i += 1;
-    }
-    Ok(Arguments { whole: true, words })
-}
-
-// Reads words until the slice is full, and says whether they were all there.
-pub fn read_all<R: io::Read>(from: &mut R, words: &mut [u32]) -> io::Result<bool>
+// Reads words until the slice is full.
+pub fn read_all<R: io::Read>(from: &mut R, words: &mut [u32]) -> Result<(), ScriptError>
     ensures { OnErr result (length words.new ≡ length words.old) }
 {
-    let mut i = 0;
-    while i < words.len() {
-        let Read::Word(w) = read_word(from)? else {
-            return Ok(false);
-        };
-        words[i] = w;
-        i += 1;
+    for word in words.iter_mut() {
+        *word = read_word(from)?.ok_or(ScriptError::Bad)?;
     }
-    Ok(true)
+    Ok(())
+}
+
+// The next n words, with zeroes behind them.
+pub fn read_arguments<R: io::Read>(from: &mut R, n: usize) -> Result<[u32; 5], ScriptError>
+    requires { n ≤ 5 }
+{
+    let mut words = [0; 5];
+    read_all(from, &mut words[..n])?;
+    Ok(words)
 }
 
 // Each word i becomes f + i.
@@ -98,11 +70,9 @@ pub fn fill(words: &mut [u32], f: u32)
     ensures { words.new ≡ rising f (length words.old) }
 {
     let mut next = f;
-    let mut i = 0;
-    while i < words.len() {
-        words[i] = next;
-        next = std::num::wrapping_add_u32(next, 1);
-        i += 1;
+    for word in words.iter_mut() {
+        *word = next;
+        next = next.wrapping_add(1);
     }
 }
 
@@ -111,29 +81,18 @@ pub fn sum(words: &[u32]) -> u64
     ensures { result ≡ sum_of words.now }
 {
     let mut h: u64 = 7;
-    let mut i = 0;
-    while i < words.len() {
-        h = (h * 31 + words[i] as u64) % 4294967291;
-        i += 1;
+    for &word in words {
+        h = (h * 31 + u64::from(word)) % 4294967291;
     }
     h
 }
 
-// A number, and what follows it.
-pub fn print_number(to: &impl Print, n: u64, after: &[u8]) -> io::Result<()> {
-    to.print(n)?;
-    to.write_all(after)
-}
-
 // The number and the three values of an answer, a blank behind each.
 pub fn print_answer(to: &impl Print, a: Answer) -> io::Result<()> {
-    print_number(to, u64::from(a.number), b" ")?;
-    print_number(to, u64::from(a.first), b" ")?;
-    print_number(to, u64::from(a.second), b" ")?;
-    print_number(to, u64::from(a.third), b" ")
+    print!(to; "{} {} {} {} ", a.number, a.first, a.second, a.third)
 }
 
 // What a bad script is answered with.
 pub fn print_bad(to: &impl Print) -> io::Result<()> {
-    to.write_all(b"bad\n")
+    println!(to; "bad")
 }

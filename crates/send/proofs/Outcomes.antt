@@ -1,4 +1,5 @@
 -- The outcome of a send, by the tests on the way, and what a sound memory gives to it. Assumes nothing.
+use Rattle.std.specs.Prelude.{Err, Result}
 use mathlib.Core.Path.{◌≡◌, sym, ap, ap₂, ◌∙◌}
 use mathlib.Core.Bool.{true, false}
 use mathlib.Core.List.{List}
@@ -17,7 +18,7 @@ use Rattle.layout.specs.Numbers.{header_words}
 use Rattle.layout.proofs.Fits.{nodes_fit}
 use Rattle.tasks.specs.Table.{node_of, queue_of, is_bound}
 use Rattle.tasks.specs.Seat.{seat_of}
-use Rattle.tasks.specs.declared.Seat.TheVariants.{At, Unbound}
+use Rattle.std.specs.Prelude.{Some, None}
 use Rattle.tasks.proofs.Laws.{told-unbound, told_at, seat-within}
 use Rattle.blocks.specs.Chain.{needs}
 use Rattle.sound.specs.Reading.{settings_in, table_in}
@@ -29,7 +30,8 @@ use Rattle.posting.specs.Asked.{Queued, Posts}
 use Rattle.posting.specs.declared.Goal.{Goal}
 use Rattle.posting.specs.declared.Goal.TheVariants.{Task, Node}
 use Rattle.posting.specs.declared.Sent.{Sent}
-use Rattle.posting.specs.declared.Sent.TheVariants.{SourceNotBound, DestinationNotBound, BodyTooLong}
+use Rattle.posting.specs.declared.SendRefusal.{SendRefusal}
+use Rattle.posting.specs.declared.SendRefusal.TheVariants.{SourceNotBound, DestinationNotBound, BodyTooLong}
 use Rattle.send.specs.Outcome.{Outcome, refused_by, fits, goal_of, posted_in, delivered, send}
 use Rattle.send.specs.Asked.{Delivers}
 
@@ -67,13 +69,13 @@ module _ (s : Settings) (memory : List ℕ) (i a size : ℕ) (ea : a ≡ node_at
   pub posts-lent : (goal : Goal) (n : ℕ) → Posts s (node s memory i) goal n → Posts s (part memory a (a + size)) goal n
   posts-lent goal n p = rw lent p
 
-  pub posted-back : (goal : Goal) (ws : List ℕ) (r : Sent) (p : List ℕ) → record { answer = r; stretch = p } ≡ posted s (part memory a (a + size)) goal ws
+  pub posted-back : (goal : Goal) (ws : List ℕ) (r : Result Sent SendRefusal) (p : List ℕ) → record { answer = r; stretch = p } ≡ posted s (part memory a (a + size)) goal ws
       → record { answer = r; memory = put_mid a (a + size - a) memory p } ≡ posted_in s memory i goal ws
   unfolding posted_in
   posted-back goal ws r p e =
       let o : Posted = posted s (node s memory i) goal ws in
       let f : record { answer = r; stretch = p } ≡ o = e ∙ ap (λ (l : List ℕ). posted s l goal ws) lent in
-      ap₂ (λ (x : Sent) (y : List ℕ). refused_by x y) (ap (λ (x : Posted). x.answer) f)
+      ap₂ (λ (x : Result Sent SendRefusal) (y : List ℕ). refused_by x y) (ap (λ (x : Posted). x.answer) f)
       (back a (a + size) memory (omega arith) (ap (λ (x : Posted). x.stretch) f) ∙ ap₂ (λ (k z : ℕ). splice memory k (k + z) o.stretch) ea es)
 
 -- ---- a sound memory
@@ -82,23 +84,23 @@ module _ (memory : List ℕ) (e : sound memory ≡ true) where
   sound-long = omega (arith, (gives_sized memory e).long, nodes_fit (settings_in memory))
 
   module _ (source destination : ℕ) (body : List ℕ) where
-    pub out-source : seat_of (table_in memory) source ≡ Unbound → refused_by SourceNotBound memory ≡ send memory source destination body
+    pub out-source : seat_of (table_in memory) source ≡ None → refused_by (Err SourceNotBound) memory ≡ send memory source destination body
     unfolding send
     out-source u = rw (e, told-unbound (table_in memory) source u)
 
-    module _ (from own : ℕ) (a : seat_of (table_in memory) source ≡ At from own) where
+    module _ (from own : ℕ) (a : seat_of (table_in memory) source ≡ Some (record { node = from; queue = own })) where
       bound : (is_bound (table_in memory) source ≡ true) × ((from ≡ node_of (table_in memory) source) × (own ≡ queue_of (table_in memory) source))
       bound = told_at (table_in memory) source from own a
 
-      pub out-destination : seat_of (table_in memory) destination ≡ Unbound → refused_by DestinationNotBound memory ≡ send memory source destination body
+      pub out-destination : seat_of (table_in memory) destination ≡ None → refused_by (Err DestinationNotBound) memory ≡ send memory source destination body
       unfolding send
       out-destination u = rw (e, bound.0, told-unbound (table_in memory) destination u)
 
-      module _ (to queue : ℕ) (b : seat_of (table_in memory) destination ≡ At to queue) (s : Settings) (es : s ≡ settings_in memory) where
+      module _ (to queue : ℕ) (b : seat_of (table_in memory) destination ≡ Some (record { node = to; queue = queue })) (s : Settings) (es : s ≡ settings_in memory) where
         bound₂ : (is_bound (table_in memory) destination ≡ true) × ((to ≡ node_of (table_in memory) destination) × (queue ≡ queue_of (table_in memory) destination))
         bound₂ = told_at (table_in memory) destination to queue b
 
-        pub out_body : false ≡ fits s (length body) → refused_by BodyTooLong memory ≡ send memory source destination body
+        pub out_body : false ≡ fits s (length body) → refused_by (Err BodyTooLong) memory ≡ send memory source destination body
         unfolding send
         out_body f = let g : fits (settings_in memory) (length body) ≡ false = rw es at (sym f) in rw (e, bound.0, bound₂.0, g)
 

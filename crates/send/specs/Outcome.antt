@@ -1,5 +1,5 @@
 -- What send answers and leaves, for any memory, tasks and body: 'Send', 'What comes back'.
-use Rattle.std.specs.Prelude.{Bool, cond, ◌&&◌, List, ℕ, ◌+◌, eqb, leb, length}
+use Rattle.std.specs.Prelude.{Bool, cond, ◌&&◌, List, ℕ, ◌+◌, eqb, leb, length, Err, Result}
 use Rattle.settings.specs.declared.Settings.{Settings}
 use Rattle.layout.specs.Places.{node, with_node}
 use Rattle.layout.specs.Numbers.{header_words, greatest_body}
@@ -7,32 +7,21 @@ use Rattle.tasks.specs.Table.{node_of, queue_of, is_bound}
 use Rattle.blocks.specs.Chain.{needs}
 use Rattle.sound.specs.Reading.{settings_in, table_in}
 use Rattle.sound.specs.Sound.{sound}
-use Rattle.answers.specs.declared.Answer.{Answer}
-use Rattle.answers.specs.Numbers.{bare, done, not_sound, first_not_bound, other_not_bound, body_too_long, too_few_blocks, queue_full}
 use Rattle.letters.specs.Made.{letter_of}
 use Rattle.posting.specs.Letter.{header_of}
 use Rattle.posting.specs.Post.{posted}
 use Rattle.posting.specs.declared.Goal.{Goal}
 use Rattle.posting.specs.declared.Goal.TheVariants.{Task, Node}
 use Rattle.posting.specs.declared.Sent.{Sent}
-use Rattle.posting.specs.declared.Sent.TheVariants.{Done, NotSound, SourceNotBound, DestinationNotBound, BodyTooLong, TooFewBlocks, QueueFull}
-
--- the document's number and values for each case: 'Send answers blocks taken'
-abbrev pub told : Sent → Answer
-told (Done blocks) = record { number = done; first = blocks; second = 0; third = 0 }
-told NotSound = bare not_sound
-told SourceNotBound = bare first_not_bound
-told DestinationNotBound = bare other_not_bound
-told BodyTooLong = bare body_too_long
-told TooFewBlocks = bare too_few_blocks
-told QueueFull = bare queue_full
+use Rattle.posting.specs.declared.SendRefusal.{SendRefusal}
+use Rattle.posting.specs.declared.SendRefusal.TheVariants.{NotSound, SourceNotBound, DestinationNotBound, BodyTooLong}
 
 -- what a send answers, and the memory after it
 pub record Outcome : Type 0 where
-  pub answer : Sent
+  pub answer : Result Sent SendRefusal
   pub memory : List ℕ
 
-abbrev pub refused_by : Sent → List ℕ → Outcome
+abbrev pub refused_by : Result Sent SendRefusal → List ℕ → Outcome
 refused_by a memory = record { answer = a; memory = memory }
 
 -- 'body over 1,019, or needs over M blocks': of a body of n words
@@ -70,7 +59,7 @@ module _ (memory : List ℕ) (source destination : ℕ) (body : List ℕ) where
       cond (sound memory)
       (cond (is_bound (table_in memory) source)
       (cond (is_bound (table_in memory) destination)
-      (cond (fits settings (length body)) delivered (refused_by BodyTooLong memory))
-      (refused_by DestinationNotBound memory))
-      (refused_by SourceNotBound memory))
-      (refused_by NotSound memory)
+      (cond (fits settings (length body)) delivered (refused_by (Err BodyTooLong) memory))
+      (refused_by (Err DestinationNotBound) memory))
+      (refused_by (Err SourceNotBound) memory))
+      (refused_by (Err NotSound) memory)

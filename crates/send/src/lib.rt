@@ -6,14 +6,12 @@ ghost use Rattle.settings.specs.Range.{InRange};
 ghost use Rattle.layout.specs.Numbers.{header_words};
 ghost use Rattle.letters.specs.Made.{letter_of};
 ghost use Rattle.sound.specs.Sound.{sound};
-ghost use Rattle.send.specs.Outcome.{told, fits, goal_of, posted_in, send};
+ghost use Rattle.send.specs.Outcome.{fits, goal_of, posted_in, send};
 ghost use Rattle.send.specs.Asked.{Delivers};
 
-use answers::Answer;
 use letters::Header;
-use posting::{Goal, Sent};
+use posting::{Goal, SendRefusal, Sent};
 use settings::Settings;
-use tasks::Seat;
 
 // Whether a letter with a body of n words has a valid length and no more blocks than a node.
 fn body_fits(s: Settings, n: usize) -> bool
@@ -38,7 +36,13 @@ fn goal_of(from: u32, to: u32, queue: u32) -> Goal
 }
 
 // Posts a letter in the source's node: its stretch alone is lent.
-fn send_letter(memory: &mut [u32], s: Settings, header: Header, goal: Goal, body: &[u32]) -> Sent
+fn send_letter(
+    memory: &mut [u32],
+    s: Settings,
+    header: Header,
+    goal: Goal,
+    body: &[u32],
+) -> Result<Sent, SendRefusal>
     requires { Delivers s memory.old header.from goal (header_words + length body.now) }
     ensures { record { answer = result; memory = memory.new } ≡ posted_in s memory.old header.from goal (letter_of header body.now) }
 {
@@ -48,55 +52,51 @@ fn send_letter(memory: &mut [u32], s: Settings, header: Header, goal: Goal, body
 }
 
 // Send, in a sound memory.
-fn send_sound(memory: &mut [u32], source: u32, destination: u32, body: &[u32]) -> Sent
+fn send_sound(
+    memory: &mut [u32],
+    source: u32,
+    destination: u32,
+    body: &[u32],
+) -> Result<Sent, SendRefusal>
     requires { sound memory.old ≡ true }
     ensures { record { answer = result; memory = memory.new } ≡ send memory.old source destination body.now }
 {
     let s = sound::settings_in(memory);
-    let Seat::At(from, _) = tasks::seat_of(&memory[24..536], source) else {
-        return Sent::SourceNotBound;
+    let Some(home) = tasks::seat_of(layout::table(memory), source) else {
+        return Err(SendRefusal::SourceNotBound);
     };
-    let Seat::At(to, queue) = tasks::seat_of(&memory[24..536], destination) else {
-        return Sent::DestinationNotBound;
+    let Some(away) = tasks::seat_of(layout::table(memory), destination) else {
+        return Err(SendRefusal::DestinationNotBound);
     };
     if !body_fits(s, body.len()) {
-        return Sent::BodyTooLong;
+        return Err(SendRefusal::BodyTooLong);
     }
     let header = Header {
         source,
-        from,
+        from: home.node,
         destination,
-        to,
+        to: away.node,
     };
-    send_letter(memory, s, header, goal_of(from, to, queue), body)
-}
-
-// The answer's number and values.
-pub fn number_of(answer: Sent) -> Answer
-    ensures { result ≡ told answer }
-{
-    match answer {
-        Sent::Done(blocks) => Answer {
-            number: 0,
-            first: blocks,
-            second: 0,
-            third: 0,
-        },
-        Sent::NotSound => answers::bare(1),
-        Sent::SourceNotBound => answers::bare(2),
-        Sent::DestinationNotBound => answers::bare(3),
-        Sent::BodyTooLong => answers::bare(4),
-        Sent::TooFewBlocks => answers::bare(5),
-        Sent::QueueFull => answers::bare(6),
-    }
+    send_letter(
+        memory,
+        s,
+        header,
+        goal_of(home.node, away.node, away.queue),
+        body,
+    )
 }
 
 // Send, for any memory, any two task numbers and any body.
-pub fn send(memory: &mut [u32], source: u32, destination: u32, body: &[u32]) -> Sent
+pub fn send(
+    memory: &mut [u32],
+    source: u32,
+    destination: u32,
+    body: &[u32],
+) -> Result<Sent, SendRefusal>
     ensures { record { answer = result; memory = memory.new } ≡ send memory.old source destination body.now }
 {
     if !soundness::is_sound(memory) {
-        return Sent::NotSound;
+        return Err(SendRefusal::NotSound);
     }
     send_sound(memory, source, destination, body)
 }

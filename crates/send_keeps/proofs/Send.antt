@@ -2,6 +2,7 @@
 --     send-sound     the memory after it is sound; send_fixed     its size, settings and task table stay
 --     send_changes     what each answer says of the machine before and after
 --     send_refused, send-done, send_allowed     the same of a send that is refused, and of one that is done
+use Rattle.std.specs.Prelude.{Err, Ok, Result}
 use mathlib.Core.Path.{◌≡◌, refl, sym, ap, ◌∙◌, subst}
 use mathlib.Core.Bool.{true, false}
 use mathlib.Core.List.{List, [], ◌∷◌, ◌++◌}
@@ -9,7 +10,7 @@ use Prim.Native.Nat.{ℕ, ◌+◌, ◌≤◌, ◌<◌}
 use native.Mathlib.Omega.{arith}
 use lib.ListN.{length, get_or, drop}
 use borrow.Author.Tests.{leb-true}
-use Rattle.words.proofs.Lists.{put, put_same, put_other, split, same?}
+use Rattle.words.proofs.Lists.{put, put_same, put_other, split, same?, same_ok}
 use Rattle.settings.specs.declared.Settings.{Settings}
 use Rattle.layout.specs.Places.{node_size, node, with_node, send_at, task_at}
 use Rattle.tasks.specs.Table.{node_of, queue_of, is_bound}
@@ -29,7 +30,8 @@ use Rattle.posting.proofs.Frames.{post-few, post_full, post-done}
 use Rattle.posting.specs.declared.Goal.{Goal}
 use Rattle.posting.specs.declared.Goal.TheVariants.{Task, Node as ToNode}
 use Rattle.posting.specs.declared.Sent.{Sent}
-use Rattle.posting.specs.declared.Sent.TheVariants.{Done, NotSound, SourceNotBound, DestinationNotBound, BodyTooLong, TooFewBlocks, QueueFull}
+use Rattle.posting.specs.declared.SendRefusal.{SendRefusal}
+use Rattle.posting.specs.declared.SendRefusal.TheVariants.{NotSound, SourceNotBound, DestinationNotBound, BodyTooLong, TooFewBlocks, QueueFull}
 use Rattle.send.specs.Outcome.{Outcome, refused_by, fits, goal_of, posted_in, delivered, send}
 use Rattle.send.proofs.Outcomes.{fits_both, goal_same, goal_other}
 use Rattle.machine.specs.Machine.{Letter, Node, Machine}
@@ -243,15 +245,15 @@ module _ (memory : List ℕ) (e : sound memory ≡ true) where
     unfolding send delivered
     is-delivered bs bd ft = rw (e, bs, bd, ft)
 
-    is-long : is_bound table source ≡ true → is_bound table destination ≡ true → fits s (length body) ≡ false → send memory source destination body ≡ refused_by BodyTooLong memory
+    is-long : is_bound table source ≡ true → is_bound table destination ≡ true → fits s (length body) ≡ false → send memory source destination body ≡ refused_by (Err BodyTooLong) memory
     unfolding send
     is-long bs bd ft = rw (e, bs, bd, ft)
 
-    is_other_lem : is_bound table source ≡ true → is_bound table destination ≡ false → send memory source destination body ≡ refused_by DestinationNotBound memory
+    is_other_lem : is_bound table source ≡ true → is_bound table destination ≡ false → send memory source destination body ≡ refused_by (Err DestinationNotBound) memory
     unfolding send
     is_other_lem bs bd = rw (e, bs, bd)
 
-    is_first : is_bound table source ≡ false → send memory source destination body ≡ refused_by SourceNotBound memory
+    is_first : is_bound table source ≡ false → send memory source destination body ≡ refused_by (Err SourceNotBound) memory
     unfolding send
     is_first bs = rw (e, bs)
 
@@ -267,17 +269,17 @@ module _ (memory : List ℕ) (e : sound memory ≡ true) where
 
     -- ---- what a done send says of its tasks and blocks
     abbrev Says : Outcome → Type 0
-    Says o = (n : ℕ) → o.answer ≡ Done n → Allowed s table source destination n words
+    Says o = (n : ℕ) → o.answer ≡ Ok (record { blocks = n }) → Allowed s table source destination n words
 
     posted-says : is_bound table source ≡ true → is_bound table destination ≡ true → Says (posted_in s memory from goal words)
     unfolding posted_in
     posted-says bs bd =
         let l : List ℕ = node s memory from in
         let k : ℕ = needs s (length words) in
-        let Q : Posted → Type 0 = λ x. (n : ℕ) → x.answer ≡ Done n → Allowed s table source destination n words in
+        let Q : Posted → Type 0 = λ x. (n : ℕ) → x.answer ≡ Ok (record { blocks = n }) → Allowed s table source destination n words in
         split (enough s l k)
         (λ y. split (has_room s l goal)
-        (λ z. subst Q (post-done s l goal words k refl (put_in s l goal words) (sym y) (sym z) refl) (λ n d. record { from = bs; to = bd; blocks = cc }))
+        (λ z. subst Q (post-done s l goal words k refl (put_in s l goal words) (sym y) (sym z) refl) (λ n d. record { from = bs; to = bd; blocks = sym (ap (λ (x : Sent). x.blocks) (same_ok d)) }))
         (λ z. subst Q (post_full s l goal words k refl (counted l (full_of s goal)) (sym y) (sym z) refl) (λ n d. absurd (let z : ◌≡◌ {A = ℕ} 0 1 = cc in omega arith))))
         (λ y. subst Q (post-few s l goal words k refl (counted l 1) (sym y) refl) (λ n d. absurd (let z : ◌≡◌ {A = ℕ} 0 1 = cc in omega arith)))
 
@@ -291,21 +293,21 @@ module _ (memory : List ℕ) (e : sound memory ≡ true) where
         (λ bd. subst Says (sym (is_other_lem bs bd)) (λ n d. absurd (let z : ◌≡◌ {A = ℕ} 0 1 = cc in omega arith))))
         (λ bs. subst Says (sym (is_first bs)) (λ n d. absurd (let z : ◌≡◌ {A = ℕ} 0 1 = cc in omega arith)))
 
-refuses : (m m' : Machine) (i p : ℕ) (ws : List ℕ) (a : Sent) → Change m m' i p ws a → ((n : ℕ) → a ≡ Done n → ⊥) → Unchanged m m'
-refuses m m' i p ws (Done n) c f = absurd (f n refl)
-refuses m m' i p ws NotSound c f = c
-refuses m m' i p ws SourceNotBound c f = c
-refuses m m' i p ws DestinationNotBound c f = c
-refuses m m' i p ws BodyTooLong c f = c
-refuses m m' i p ws TooFewBlocks c f = c
-refuses m m' i p ws QueueFull c f = c
+refuses : (m m' : Machine) (i p : ℕ) (ws : List ℕ) (a : Result Sent SendRefusal) → Change m m' i p ws a → ((n : ℕ) → a ≡ Ok (record { blocks = n }) → ⊥) → Unchanged m m'
+refuses m m' i p ws (Ok sent) c f = absurd (f sent.blocks refl)
+refuses m m' i p ws (Err NotSound) c f = c
+refuses m m' i p ws (Err SourceNotBound) c f = c
+refuses m m' i p ws (Err DestinationNotBound) c f = c
+refuses m m' i p ws (Err BodyTooLong) c f = c
+refuses m m' i p ws (Err TooFewBlocks) c f = c
+refuses m m' i p ws (Err QueueFull) c f = c
 
 -- ---- for every memory
 module _ (memory : List ℕ) (source destination : ℕ) (body : List ℕ) where
   abbrev goal_at : ℕ
   goal_at = place_of (goal_of (node_of (table_in memory) source) (node_of (table_in memory) destination) (queue_of (table_in memory) destination))
 
-  is_unsound : sound memory ≡ false → send memory source destination body ≡ refused_by NotSound memory
+  is_unsound : sound memory ≡ false → send memory source destination body ≡ refused_by (Err NotSound) memory
   unfolding send
   is_unsound e = rw e
 
@@ -331,18 +333,18 @@ module _ (memory : List ℕ) (source destination : ℕ) (body : List ℕ) where
       (sym (is_unsound e)) (same_machine (machine_of memory)))
 
   -- REFUSED: the machine stays
-  pub send_refused : ((n : ℕ) → (send memory source destination body).answer ≡ Done n → ⊥) → Unchanged (machine_of memory) (machine_of (send memory source destination body).memory)
+  pub send_refused : ((n : ℕ) → (send memory source destination body).answer ≡ Ok (record { blocks = n }) → ⊥) → Unchanged (machine_of memory) (machine_of (send memory source destination body).memory)
   send_refused f =
       refuses (machine_of memory) (machine_of (send memory source destination body).memory) (node_of (table_in memory) source) goal_at (letter_of (header_of (table_in memory) source destination) body)
       (send memory source destination body).answer send_changes f
 
-  module _ (n : ℕ) (done : (send memory source destination body).answer ≡ Done n) where
+  module _ (n : ℕ) (done : (send memory source destination body).answer ≡ Ok (record { blocks = n })) where
     -- DONE: one letter more at the end of one queue
     pub send-done : Sends (machine_of memory) (machine_of (send memory source destination body).memory) (node_of (table_in memory) source)
         (place_of (goal_of (node_of (table_in memory) source) (node_of (table_in memory) destination) (queue_of (table_in memory) destination)))
         n (letter_of (header_of (table_in memory) source destination) body)
     send-done =
-        subst (λ (a : Sent). Change (machine_of memory) (machine_of (send memory source destination body).memory) (node_of (table_in memory) source) goal_at (letter_of (header_of (table_in memory) source destination) body) a)
+        subst (λ (a : Result Sent SendRefusal). Change (machine_of memory) (machine_of (send memory source destination body).memory) (node_of (table_in memory) source) goal_at (letter_of (header_of (table_in memory) source destination) body) a)
         done send_changes
 
     -- between bound tasks alone, with the blocks that the letter needs

@@ -1,12 +1,13 @@
 -- What a send does to the machine: 'Send', 'What comes back'.
-use Rattle.std.specs.Prelude.{◌≡◌, true, List, [], ◌∷◌, ◌++◌, ℕ, ◌+◌, ◌≤◌, ◌<◌, length, take, drop}
+use Rattle.std.specs.Prelude.{◌≡◌, true, List, [], ◌∷◌, ◌++◌, ℕ, ◌+◌, ◌≤◌, ◌<◌, length, take, drop, Err, Ok, Result}
 use Rattle.settings.specs.declared.Settings.{Settings}
 use Rattle.tasks.specs.Table.{is_bound}
 use Rattle.blocks.specs.Chain.{needs}
 use Rattle.posting.specs.declared.Goal.{Goal}
 use Rattle.posting.specs.declared.Goal.TheVariants.{Task, Node}
 use Rattle.posting.specs.declared.Sent.{Sent}
-use Rattle.posting.specs.declared.Sent.TheVariants.{Done, NotSound, SourceNotBound, DestinationNotBound, BodyTooLong, TooFewBlocks, QueueFull}
+use Rattle.posting.specs.declared.SendRefusal.{SendRefusal}
+use Rattle.posting.specs.declared.SendRefusal.TheVariants.{NotSound, SourceNotBound, DestinationNotBound, BodyTooLong, TooFewBlocks, QueueFull}
 use Rattle.machine.specs.Same.{Stands, Unchanged}
 use Rattle.machine.specs.Machine.{Letter, Machine}
 use Rattle.moves.specs.Letters.{live_ones}
@@ -36,14 +37,14 @@ pub record Sends (m m' : Machine) (i p n : ℕ) (words : List ℕ) : Type 0 wher
   pub free : (k : ℕ) → k < 6 → (k ≡ i → ⊥) → (m'.node k).free ≡ (m.node k).free
 
 -- what each answer says of the machine before and after
-abbrev pub Change : Machine → Machine → ℕ → ℕ → List ℕ → Sent → Type 0
-Change m m' i p words (Done n) = Sends m m' i p n words
-Change m m' i p words NotSound = Unchanged m m'
-Change m m' i p words SourceNotBound = Unchanged m m'
-Change m m' i p words DestinationNotBound = Unchanged m m'
-Change m m' i p words BodyTooLong = Unchanged m m'
-Change m m' i p words TooFewBlocks = Unchanged m m'
-Change m m' i p words QueueFull = Unchanged m m'
+abbrev pub Change : Machine → Machine → ℕ → ℕ → List ℕ → Result Sent SendRefusal → Type 0
+Change m m' i p words (Ok sent) = Sends m m' i p sent.blocks words
+Change m m' i p words (Err NotSound) = Unchanged m m'
+Change m m' i p words (Err SourceNotBound) = Unchanged m m'
+Change m m' i p words (Err DestinationNotBound) = Unchanged m m'
+Change m m' i p words (Err BodyTooLong) = Unchanged m m'
+Change m m' i p words (Err TooFewBlocks) = Unchanged m m'
+Change m m' i p words (Err QueueFull) = Unchanged m m'
 
 -- a send is done, with n blocks, between bound tasks alone, and with the blocks that its letter needs
 pub record Allowed (s : Settings) (table : List ℕ) (source destination n : ℕ) (words : List ℕ) : Type 0 where

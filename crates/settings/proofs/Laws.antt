@@ -1,16 +1,16 @@
 -- Settings that pass the test are in range, and settings in range pass it. Assumes nothing.
-use mathlib.Core.Path.{◌≡◌, refl, sym}
+use mathlib.Core.Path.{◌≡◌, refl}
 use mathlib.Core.Bool.{true, false}
 use Prim.Native.Nat.{ℕ}
 use lib.Dec.{leb}
 use borrow.Author.Tests.{leb-true, le-leb}
-use native.Mathlib.Omega.{arith}
-use Rattle.words.proofs.Lists.{and-true, and-join, told_no, told_yes}
+use Rattle.words.proofs.Lists.{and-true, and-join, told_none, told_some}
 use Rattle.settings.specs.Limits.{Limits, within, block_words, node_blocks, queue_length}
 use Rattle.settings.specs.Range.{in_range, Within, InRange}
 use Rattle.settings.specs.Made.{settings_of, made_settings}
+use Rattle.settings.specs.declared.Setting.{Setting}
 use Rattle.settings.specs.declared.Settings.{Settings}
-use Rattle.settings.specs.declared.MadeSettings.TheVariants.{Made, Refused}
+use Rattle.std.specs.Prelude.{Some, None}
 
 pub within-true : (l : Limits) (x : ℕ) → within l x ≡ true → Within l x
 unfolding within
@@ -44,45 +44,47 @@ true-range s r =
 
 -- ---- the constructor's answer, by the first setting that is out of range
 module _ (B M S A T : ℕ) where
-  pub refused_b : within block_words B ≡ false → Refused ≡ made_settings B M S A T
+  pub refused_b : within block_words B ≡ false → None ≡ made_settings B M S A T
   unfolding made_settings in_range
   refused_b e = rw e
 
   module _ (b : within block_words B ≡ true) where
-    pub refused_m : within node_blocks M ≡ false → Refused ≡ made_settings B M S A T
+    pub refused_m : within node_blocks M ≡ false → None ≡ made_settings B M S A T
     unfolding made_settings in_range
     refused_m e = rw (b, e)
 
     module _ (m : within node_blocks M ≡ true) where
-      pub refused_s : within queue_length S ≡ false → Refused ≡ made_settings B M S A T
+      pub refused_s : within queue_length S ≡ false → None ≡ made_settings B M S A T
       unfolding made_settings in_range
       refused_s e = rw (b, m, e)
 
       module _ (s : within queue_length S ≡ true) where
-        pub refused_a : within queue_length A ≡ false → Refused ≡ made_settings B M S A T
+        pub refused_a : within queue_length A ≡ false → None ≡ made_settings B M S A T
         unfolding made_settings in_range
         refused_a e = simp (b, m, s, e)
 
         module _ (a : within queue_length A ≡ true) where
-          pub refused_t : within queue_length T ≡ false → Refused ≡ made_settings B M S A T
+          pub refused_t : within queue_length T ≡ false → None ≡ made_settings B M S A T
           unfolding made_settings in_range
           refused_t e = simp (b, m, s, a, e)
 
-          pub made_all : within queue_length T ≡ true → Made (settings_of B M S A T) ≡ made_settings B M S A T
+          pub made_all : within queue_length T ≡ true → Some (settings_of B M S A T) ≡ made_settings B M S A T
           unfolding made_settings in_range
           made_all t = simp (b, m, s, a, t)
 
+-- the five made are the settings of their numbers
+pub made_of : {B M S A T : ℕ} {b : Setting 4 64} {m : Setting 1 1024} {s a t : Setting 2 255}
+    → record { value = B } ≡ b → record { value = M } ≡ m → record { value = S } ≡ s → record { value = A } ≡ a → record { value = T } ≡ t
+    → Some (settings_of B M S A T) ≡ made_settings B M S A T
+    → Some (settings_of b.value m.value s.value a.value t.value) ≡ made_settings B M S A T
+made_of e₀ e₁ e₂ e₃ e₄ h = rw (← e₀, ← e₁, ← e₂, ← e₃, ← e₄) h
+
 -- ---- what the constructor's answer tells
 module _ (B M S A T : ℕ) where
-  pub told_refused : made_settings B M S A T ≡ Refused → in_range (settings_of B M S A T) ≡ false
+  pub told_refused : made_settings B M S A T ≡ None → in_range (settings_of B M S A T) ≡ false
   unfolding made_settings
-  told_refused e = told_no (in_range (settings_of B M S A T)) (Made (settings_of B M S A T)) Refused Refused (sym e) (λ q. let z : ◌≡◌ {A = ℕ} 0 1 = cc in omega arith) refl
+  told_refused e = told_none (in_range (settings_of B M S A T)) (settings_of B M S A T) _ refl e
 
-  pub told_made : (g : Settings) → made_settings B M S A T ≡ Made g → (in_range (settings_of B M S A T) ≡ true) × (settings_of B M S A T ≡ g)
+  pub told_made : (g : Settings) → made_settings B M S A T ≡ Some g → (in_range (settings_of B M S A T) ≡ true) × (settings_of B M S A T ≡ g)
   unfolding made_settings
-  told_made g e =
-      let y = told_yes (in_range (settings_of B M S A T)) (Made (settings_of B M S A T)) Refused (Made g) (sym e) (Made g) (λ q. let z : ◌≡◌ {A = ℕ} 0 1 = cc in omega arith) refl in
-      (y.0, same (settings_of B M S A T) g y.1)
-    where
-      same : (x y : Settings) → Made x ≡ Made y → x ≡ y
-      same x y q = cc
+  told_made g e = told_some (in_range (settings_of B M S A T)) (settings_of B M S A T) _ refl g e

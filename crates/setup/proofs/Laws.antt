@@ -14,7 +14,6 @@ use Rattle.words.proofs.Parts.{grown, back}
 use Rattle.settings.specs.declared.Settings.{Settings}
 use Rattle.settings.specs.Range.{InRange}
 use Rattle.layout.specs.Places.{table_words, nodes_at, blocks_at, block_at, link_at, node_size, node_at, memory_size}
-use Rattle.layout.proofs.Fits.{block-fits}
 use Rattle.setup.specs.Fresh.{next_free, fresh_block, fresh_blocks, fresh_front, fresh_node, fresh_nodes, fresh_head, fresh_memory}
 
 -- the first zeroes of many, and those behind them
@@ -39,9 +38,9 @@ linked s k = (fresh_front s ++ fresh_blocks s k) ++ replicate ((s.m - k) * s.b) 
 unfoldable pub laid_nodes : Settings → List ℕ → List ℕ → ℕ → List ℕ
 laid_nodes s h d i = (h ++ fresh_nodes s i) ++ drop (node_at s i) d
 
--- a memory that was cleared
-pub cleared : (s : Settings) (d m : List ℕ) → m ≡ replicate (length d) 0 → length d ≡ memory_size s → m ≡ replicate (memory_size s) 0
-cleared s d m e z = e ∙ ap (λ (n : ℕ). replicate {A = ℕ} n 0) z
+-- a memory that was filled with zeroes
+pub cleared : (s : Settings) (d m : List ℕ) → (((y : ℕ) → y ≡ 0 → y ≡ 0) → m ≡ replicate (length d) 0) → length d ≡ memory_size s → m ≡ replicate (memory_size s) 0
+cleared s d m e z = e (λ y h. h) ∙ ap (λ (n : ℕ). replicate {A = ℕ} n 0) z
 
 module _ (s : Settings) (r : InRange s) where
   pub length-block : (b : ℕ) → length (fresh_block s b) ≡ s.b
@@ -120,16 +119,6 @@ module _ (s : Settings) (r : InRange s) where
       let d : b - 1 + 1 ≡ b = omega arith in
       let f : b + 1 - 1 ≡ b = omega arith in
       ap (λ (y : ℕ). set (linked s (b - 1)) at (y + 1)) (sym d) ∙ linked_more (b - 1) at (omega arith) (e ∙ ap (link_at s) (sym d)) ∙ ap (linked s) (d ∙ sym f)
-
-  -- the word of a block's link: within the stretch, and B words before the next
-  pub link_in_lem : (b at : ℕ) → 1 ≤ b → b ≤ s.m → at ≡ link_at s b → at < node_size s
-  link_in_lem b at l h e = let w = r.b.low in omega (arith, block-fits s b l h)
-
-  pub link_next : (b at : ℕ) → 1 ≤ b → at ≡ link_at s b → at + s.b ≡ link_at s (b + 1)
-  unfolding block_at
-  link_next b at l e =
-      let d : b + 1 - 1 ≡ suc (b - 1) = omega arith in
-      omega (arith, ap (λ (y : ℕ). y * s.b) d ∙ suc-mul (b - 1) s.b)
 
   pub linked_all : (k : ℕ) → k + 1 ≡ s.m → linked s k ≡ fresh_node s
   unfolding linked fresh_node fresh_blocks fresh_block next_free

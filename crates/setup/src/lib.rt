@@ -1,7 +1,7 @@
 // Set up: the first of the five calls.
 #![tactic(auto)]
 
-ghost use Rattle.std.specs.Prelude.{◌≡◌, ◌++◌, ◌*◌, length, take, drop, replicate};
+ghost use Rattle.std.specs.Prelude.{Err, ◌≡◌, ◌++◌, ◌*◌, length, take, drop, replicate};
 ghost use Rattle.settings.specs.Made.{settings_of};
 ghost use Rattle.settings.specs.Range.{InRange};
 ghost use Rattle.layout.specs.Places.{table_words, table_at, nodes_at, node_size};
@@ -10,11 +10,11 @@ ghost use Rattle.setup.specs.Fresh.{fresh_head, fresh_node, fresh_nodes, fresh_m
 ghost use Rattle.setup.specs.Outcome.{set_up, told};
 
 use answers::Answer;
-use settings::{MadeSettings, Settings};
+use settings::Settings;
 
-#[derive(Clone, Copy)]
-pub enum SetUp {
-    Done,
+// Why a set up was refused.
+#[derive(Clone, Copy, Debug, PartialEq, Eq)]
+pub enum SetUpRefusal {
     SettingOutOfRange,
     WrongTable,
     OtherSize,
@@ -33,19 +33,16 @@ fn lay_head(head: &mut [u32], s: Settings)
     head[4] = s.t as u32;
 }
 
-// The free list, in a stretch of zeroes: the first free block, 1, then a link every B words; that of the last block stays 0.
+// The free list, in a stretch of zeroes: block 1 is its first, each block b links to b + 1, and the link of the last stays 0.
 fn lay_node(node: &mut [u32], s: Settings)
     requires in_range { InRange s }
     requires node_value { node.old ≡ replicate (node_size s) 0 }
     ensures { node.new ≡ fresh_node s }
 {
     node[0] = 1;
-    let mut at = layout::link_at(s, 1);
-    let mut b = 1;
-    while b < s.m {
-        b += 1;
-        node[at] = b as u32;
-        at += s.b;
+    for b in 1..s.m {
+        let at = layout::link_at(s, b);
+        node[at] = b as u32 + 1;
     }
 }
 
@@ -56,12 +53,9 @@ fn lay_nodes(memory: &mut [u32], s: Settings)
     ensures { memory.new ≡ take nodes_at memory.old ++ fresh_nodes s 6 }
 {
     let words = layout::node_size(s);
-    let mut i = 0;
-    while i < 6 {
+    for i in 0..6 {
         let at = layout::node_at(s, i);
-        let end = at + words;
-        lay_node(&mut memory[at..end], s);
-        i += 1;
+        lay_node(&mut memory[at..at + words], s);
     }
 }
 
@@ -71,37 +65,44 @@ fn lay_memory(memory: &mut [u32], s: Settings, table: &[u32])
     requires table_len { length table.now ≡ table_words }
     ensures { memory.new ≡ fresh_memory s table.now }
 {
-    words::clear(memory);
+    memory.fill(0);
     lay_head(&mut memory[0..24], s);
-    words::copy(&mut memory[24..536], table);
+    memory[24..536].copy_from_slice(table);
     lay_nodes(memory, s);
 }
 
 // Set up, for any five numbers, any table and any memory.
-pub fn set_up(b: u32, m: u32, s: u32, a: u32, t: u32, table: &[u32], memory: &mut [u32]) -> SetUp
+pub fn set_up(
+    b: u32,
+    m: u32,
+    s: u32,
+    a: u32,
+    t: u32,
+    table: &[u32],
+    memory: &mut [u32],
+) -> Result<(), SetUpRefusal>
     ensures { record { answer = result; memory = memory.new } ≡ set_up (settings_of b m s a t) table.now memory.old }
 {
-    let MadeSettings::Made(settings) = Settings::new(b, m, s, a, t) else {
-        return SetUp::SettingOutOfRange;
-    };
+    let settings = Settings::new(b, m, s, a, t).ok_or(SetUpRefusal::SettingOutOfRange)?;
     if !tasks::is_right(table) {
-        return SetUp::WrongTable;
+        return Err(SetUpRefusal::WrongTable);
     }
     if memory.len() != layout::memory_size(settings) {
-        return SetUp::OtherSize;
+        return Err(SetUpRefusal::OtherSize);
     }
     lay_memory(memory, settings, table);
-    SetUp::Done
+    Ok(())
 }
 
-// The answer's number and values.
-pub fn number_of(answer: SetUp) -> Answer
-    ensures { result ≡ told answer }
-{
-    match answer {
-        SetUp::Done => answers::bare(0),
-        SetUp::SettingOutOfRange => answers::bare(13),
-        SetUp::WrongTable => answers::bare(14),
-        SetUp::OtherSize => answers::bare(15),
+// The number of each refusal.
+impl From<SetUpRefusal> for Answer {
+    ghost from_gives = { λ refusal a. a ≡ told (Err refusal) };
+
+    fn from(refusal: SetUpRefusal) -> Answer {
+        answers::bare(match refusal {
+            SetUpRefusal::SettingOutOfRange => 13,
+            SetUpRefusal::WrongTable => 14,
+            SetUpRefusal::OtherSize => 15,
+        })
     }
 }

@@ -2,3 +2,4 @@ pub mod Clear
 pub mod Steps
 pub mod Bound
 pub mod Rule
+pub mod Posts

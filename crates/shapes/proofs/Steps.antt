@@ -8,7 +8,7 @@ use lib.Dec.{eqb, leb, ltb, leb-zero}
 use lib.ListN.{length, get_or}
 use borrow.Author.Tests.{eq-eqb, ne_eqb, le-leb, lt-leb, lt-ltb, le-ltb}
 use Rattle.words.specs.Words.{all}
-use Rattle.words.proofs.Lists.{same?, and-false}
+use Rattle.words.proofs.Lists.{same?}
 use Rattle.layout.specs.Places.{gap_word}
 use Rattle.queues.specs.declared.Kind.{Kind}
 use Rattle.queues.specs.Queue.{start, items, item_at, run, contents}
@@ -38,14 +38,12 @@ module _ (k : Kind) (l : List ℕ) (q : ℕ) where
     unfolding items_within run all
     within_step h = let d : n - i ≡ suc (n - (i + 1)) = omega arith in rw d at e
 
-    pub within_low : i < n → item_at k l q i < least → false ≡ r
-    within_low h g = sym (within_step h ∙ rw (lt-leb least (item_at k l q i) g))
+    module _ (h : i < n) (x : ℕ) (f : x ≡ item_at k l q i) where
+      pub within_no : leb least x && leb x most ≡ false → false ≡ r
+      within_no g = sym (within_step h ∙ rw (← f, g))
 
-    pub within-high : i < n → most < item_at k l q i → false ≡ r
-    within-high h g = sym (within_step h ∙ rw (lt-leb (item_at k l q i) most g, and-false (leb least (item_at k l q i))))
-
-    pub within_more : i < n → least ≤ item_at k l q i → item_at k l q i ≤ most → r ≡ items_within least most (run k l q (i + 1) (n - (i + 1)))
-    within_more h g f = within_step h ∙ rw (le-leb least (item_at k l q i) g, le-leb (item_at k l q i) most f)
+      pub within_more : leb least x && leb x most ≡ true → r ≡ items_within least most (run k l q (i + 1) (n - (i + 1)))
+      within_more g = within_step h ∙ rw (← f, g)
 
     pub within_none : n ≤ i → true ≡ r
     unfolding items_within run all

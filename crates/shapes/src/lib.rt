@@ -1,7 +1,9 @@
 // The third rule of a sound memory: the queues of a node.
 #![tactic(auto)]
 
-ghost use Rattle.std.specs.Prelude.{◌≡◌, ◌<◌, ◌≤◌, length};
+ghost use Rattle.std.specs.Prelude.{◌≡◌, ℕ, ◌+◌, ◌*◌, ◌<◌, ◌≤◌, eqb, length};
+ghost use Rattle.words.specs.Words.{every};
+ghost use Rattle.layout.specs.Places.{nodes};
 ghost use Rattle.layout.specs.Asked.{Stretch};
 ghost use Rattle.queues.specs.Queue.{Queue, Placed, start, items, contents};
 ghost use Rattle.sound.specs.Queues.{in_shape};
@@ -11,8 +13,6 @@ ghost use Rattle.shapes.specs.Shape.{
   items_within,
   right_post,
   right_seat,
-  right_sends,
-  right_acks,
   right_seats,
   right_stretch,
 };
@@ -20,18 +20,12 @@ ghost use Rattle.shapes.specs.Shape.{
 use queues::Kind;
 use settings::Settings;
 
-// Whether the words from a on, before e, are 0: all are joined, and that is looked at once.
+// Whether the words from a on, before e, are 0.
 fn are_zero(node: &[u32], a: usize, e: usize) -> bool
     requires { (a ≤ e) × (e ≤ length node.now) }
     ensures { result ≡ zeroes node.now a e }
 {
-    let mut bits: u32 = 0;
-    let mut i = a;
-    while i < e {
-        bits = bits | node[i];
-        i += 1;
-    }
-    bits == 0
+    node[a..e].iter().all(|&word| word == 0)
 }
 
 // Whether the slots outside the items are 0, as they stand: behind the last item and before the first, or between them where the items run round.
@@ -50,10 +44,7 @@ fn is_clear(node: &[u32], k: Kind, q: usize, first: usize, count: usize) -> bool
     if k.slots < end {
         return are_zero(node, base + (end - k.slots), base + first);
     }
-    if !are_zero(node, base + end, base + k.slots) {
-        return false;
-    }
-    are_zero(node, base, base + first)
+    are_zero(node, base + end, base + k.slots) && are_zero(node, base, base + first)
 }
 
 // Whether the start is below the queue's length, the items at most it, and the slots outside the items 0.
@@ -63,13 +54,7 @@ fn is_in_shape(node: &[u32], k: Kind, q: usize) -> bool
 {
     let first = node[q] as usize;
     let count = node[q + 1] as usize;
-    if k.slots <= first {
-        return false;
-    }
-    if k.slots < count {
-        return false;
-    }
-    is_clear(node, k, q, first, count)
+    first < k.slots && count <= k.slots && is_clear(node, k, q, first, count)
 }
 
 // Whether the items lie between the two, both included.
@@ -78,16 +63,11 @@ fn are_within(node: &[u32], k: Kind, q: usize, least: usize, most: usize) -> boo
     ensures { result ≡ items_within least most (contents k node.now q) }
 {
     let count = queues::items_of(node, k, q);
-    let mut i: usize = 0;
-    while i < count {
+    for i in 0..count {
         let b = queues::item(node, k, q, i) as usize;
-        if b < least {
+        if !(least..=most).contains(&b) {
             return false;
         }
-        if most < b {
-            return false;
-        }
-        i += 1;
     }
     true
 }
@@ -101,9 +81,10 @@ fn is_right_post(node: &[u32], k: Kind, q: usize, m: usize, own: bool) -> bool
         return false;
     }
     if own {
-        return queues::items_of(node, k, q) == 0;
+        queues::items_of(node, k, q) == 0
+    } else {
+        are_within(node, k, q, 1, m)
     }
-    are_within(node, k, q, 1, m)
 }
 
 // Whether a task queue is right; `task`: the task that it is bound to, 0 for none.
@@ -118,48 +99,22 @@ fn is_right_seat(node: &[u32], k: Kind, q: usize, m: usize, task: u8) -> bool
     if queues::items_of(node, k, q) == 0 {
         return node[q + 2] == 0;
     }
-    if task == 0 {
+    if task == 0 || queues::item(node, k, q, 0) == 0 {
         return false;
     }
-    if queues::item(node, k, q, 0) == 0 {
-        return false;
-    }
-    if !are_within(node, k, q, 0, m) {
-        return false;
-    }
-    node[q + 2] == taking::gap_flag(node, k, q)
+    are_within(node, k, q, 0, m) && node[q + 2] == taking::gap_flag(node, k, q)
 }
 
-// Whether the six send queues of node i are right.
-fn are_right_sends(node: &[u32], s: Settings, i: usize) -> bool
-    requires { Stretch s node.now }
-    ensures { result ≡ right_sends s node.now i }
+// Whether the six send or acknowledge queues of node i, the first of them at word `first`, are right.
+fn are_right_posts(node: &[u32], kind: Kind, first: usize, m: usize, i: usize) -> bool
+    requires { (k : ℕ) → k < nodes → Placed kind node.now (first + k * (kind.head + kind.slots)) }
+    ensures { result ≡ every nodes (λ k. right_post kind node.now (first + k * (kind.head + kind.slots)) m (eqb k i)) }
 {
-    let kind = queues::send_kind(s);
-    let mut k: usize = 0;
-    while k < 6 {
-        let q = layout::send_at(s, k);
-        if !is_right_post(node, kind, q, s.m, k == i) {
+    for k in 0..6 {
+        let q = first + k * (kind.head + kind.slots);
+        if !is_right_post(node, kind, q, m, k == i) {
             return false;
         }
-        k += 1;
-    }
-    true
-}
-
-// Whether the six acknowledge queues of node i are right.
-fn are_right_acks(node: &[u32], s: Settings, i: usize) -> bool
-    requires { Stretch s node.now }
-    ensures { result ≡ right_acks s node.now i }
-{
-    let kind = queues::ack_kind(s);
-    let mut k: usize = 0;
-    while k < 6 {
-        let q = layout::ack_at(s, k);
-        if !is_right_post(node, kind, q, s.m, k == i) {
-            return false;
-        }
-        k += 1;
     }
     true
 }
@@ -171,14 +126,12 @@ fn are_right_seats(node: &[u32], s: Settings, seats: &[u8; 384], i: usize) -> bo
     ensures { result ≡ right_seats s node.now i seats.now }
 {
     let kind = queues::task_kind(s);
-    let mut q: usize = 0;
-    while q < 64 {
+    for q in 0..64 {
         let at = layout::task_at(s, q);
         let task = seats[i * 64 + q];
         if !is_right_seat(node, kind, at, s.m, task) {
             return false;
         }
-        q += 1;
     }
     true
 }
@@ -189,11 +142,7 @@ pub fn is_right_stretch(node: &[u32], s: Settings, seats: &[u8; 384], i: usize) 
     requires i_bound { i < 6 }
     ensures { result ≡ right_stretch s node.now i seats.now }
 {
-    if !are_right_sends(node, s, i) {
-        return false;
-    }
-    if !are_right_acks(node, s, i) {
-        return false;
-    }
-    are_right_seats(node, s, seats, i)
+    are_right_posts(node, queues::send_kind(s), layout::send_at(s, 0), s.m, i)
+        && are_right_posts(node, queues::ack_kind(s), layout::ack_at(s, 0), s.m, i)
+        && are_right_seats(node, s, seats, i)
 }

@@ -1,9 +1,8 @@
 -- What a letter that a block begins gives to the functions that read it. Assumes nothing.
-use mathlib.Core.Path.{◌≡◌, sym, ap₂, ◌∙◌}
+use mathlib.Core.Path.{◌≡◌, sym, ◌∙◌}
 use mathlib.Core.List.{List}
 use Prim.Native.Nat.{ℕ, ◌+◌, ◌-◌, ◌≤◌, ◌<◌}
 use native.Mathlib.Omega.{arith}
-use Rattle.words.specs.Words.{part}
 use Rattle.settings.specs.declared.Settings.{Settings}
 use Rattle.layout.specs.Places.{nodes, node_size, node_at, node}
 use Rattle.layout.specs.Numbers.{header_words, source_task_word, length_word}
@@ -16,10 +15,6 @@ use Rattle.sound.specs.Letters.{told_length}
 use Rattle.sound.proofs.Right.{right_least, right_lies, right_word, right_told}
 use Rattle.showing.specs.List.{word_in, shown}
 use Rattle.showing.specs.Asked.{Begins}
-
--- the part that is lent is node i's stretch
-pub node-part : (s : Settings) (memory : List ℕ) (i a size : ℕ) → a ≡ node_at s i → size ≡ node_size s → part memory a (a + size) ≡ node s memory i
-node-part s memory i a size ea es = ap₂ (λ (k z : ℕ). part memory k (k + z)) ea es
 
 -- node i's stretch of a memory that is as long as the settings say
 sized-stretch : (s : Settings) (memory : List ℕ) → Sized s memory → (i : ℕ) → i < nodes → Stretch s (node s memory i)

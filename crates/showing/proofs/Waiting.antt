@@ -1,17 +1,15 @@
--- The item of a send queue that is left out, and the items that wait behind it. Assumes nothing.
+-- The items of a send queue that wait behind the one that is left out. Assumes nothing.
 use mathlib.Core.Path.{◌≡◌, refl, ap}
 use mathlib.Core.Bool.{cond}
 use mathlib.Core.List.{List}
 use Prim.Native.Nat.{ℕ, zero, suc, ◌-◌}
 use native.Mathlib.Omega.{arith}
 use lib.ListN.{drop}
-use borrow.Author.Tests.{eq-eqb, ne_eqb}
 use Rattle.words.proofs.Lists.{split}
 use Rattle.settings.specs.declared.Settings.{Settings}
 use Rattle.layout.specs.Places.{send_at, node}
 use Rattle.queues.specs.declared.Kind.{Kind}
 use Rattle.queues.specs.Queue.{send_kind, items, run}
-use Rattle.sound.specs.Reading.{stage_of, other_of}
 use Rattle.showing.specs.List.{handed_over, waiting}
 
 -- ---- a run without its first item
@@ -32,17 +30,3 @@ waiting-run s memory i j f e =
     let d : f ≡ 0 = rw t at e in
     let z : n ≡ n - 0 = omega arith in
     rw (t, d) (ap (run (send_kind s) (node s memory j) (send_at s i) 0) z))
-
--- ---- the items that are left out
-module _ (memory : List ℕ) (i j : ℕ) where
-  pub out-stage : (stage_of memory i ≡ 3 → ⊥) → ◌≡◌ {A = ℕ} 0 (cond (handed_over memory i j) 1 0)
-  unfolding handed_over
-  out-stage h = rw (ne_eqb (stage_of memory i) 3 h)
-
-  pub out_other : stage_of memory i ≡ 3 → (other_of memory i ≡ j → ⊥) → ◌≡◌ {A = ℕ} 0 (cond (handed_over memory i j) 1 0)
-  unfolding handed_over
-  out_other e h = rw (eq-eqb (stage_of memory i) 3 e, ne_eqb (other_of memory i) j h)
-
-  pub out_one : stage_of memory i ≡ 3 → other_of memory i ≡ j → ◌≡◌ {A = ℕ} 1 (cond (handed_over memory i j) 1 0)
-  unfolding handed_over
-  out_one e f = rw (eq-eqb (stage_of memory i) 3 e, eq-eqb (other_of memory i) j f)

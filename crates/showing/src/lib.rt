@@ -13,7 +13,7 @@ use queues::Kind;
 use settings::Settings;
 
 // A letter that the list shows: destination, source, place (1 task queue, 2 send queue), node holding it, first block, body length.
-#[derive(Clone, Copy)]
+#[derive(Clone, Copy, Debug, PartialEq, Eq)]
 pub struct Shown {
     pub destination: u32,
     pub source: u32,
@@ -29,9 +29,7 @@ pub fn word_in(memory: &[u32], s: Settings, i: u32, b: u32, k: usize) -> u32
     requires k_lt_header_words { k < header_words }
     ensures { result ≡ word_in s memory.now i b k }
 {
-    let a = layout::node_at(s, i as usize);
-    let e = a + layout::node_size(s);
-    letters::word_of(&memory[a..e], s, b, k)
+    letters::word_of(layout::stretch(memory, s, i as usize), s, b, k)
 }
 
 // The number of items of the queue at word q of node i.
@@ -41,9 +39,7 @@ pub fn count_in(memory: &[u32], s: Settings, i: u32, k: Kind, q: usize) -> usize
     requires queue { Queue k (node s memory.now i) q }
     ensures { result ≡ items k (node s memory.now i) q }
 {
-    let a = layout::node_at(s, i as usize);
-    let e = a + layout::node_size(s);
-    queues::items_of(&memory[a..e], k, q)
+    queues::items_of(layout::stretch(memory, s, i as usize), k, q)
 }
 
 // The item at place c of the queue at word q of node i.
@@ -54,9 +50,7 @@ pub fn item_in(memory: &[u32], s: Settings, i: u32, k: Kind, q: usize, c: usize)
     requires c_lt_slots { c < k.slots }
     ensures { result ≡ item_at k (node s memory.now i) q c }
 {
-    let a = layout::node_at(s, i as usize);
-    let e = a + layout::node_size(s);
-    queues::item(&memory[a..e], k, q, c)
+    queues::item(layout::stretch(memory, s, i as usize), k, q, c)
 }
 
 // What the list shows of the letter that block b begins in node i, at a place, for a task.
@@ -77,17 +71,16 @@ pub fn shown_at(memory: &[u32], s: Settings, task: u32, place: u32, i: u32, b: u
 }
 
 // How many items of node j's send queue for node i are left out: the first, where it has been handed over.
+#[tactic(auto, unfolding(crate::specs::List::handed_over))]
 pub fn left_out(memory: &[u32], i: u32, j: u32) -> usize
     requires nodes_at_in_bounds { nodes_at ≤ length memory.now }
     requires i_lt_nodes { i < nodes }
     ensures { result ≡ cond (handed_over memory.now i j) 1 0 }
 {
     let at = 6 + i as usize * 3;
-    if memory[at] != 3 {
-        return 0;
+    if memory[at] == 3 && memory[at + 1] == j {
+        1
+    } else {
+        0
     }
-    if memory[at + 1] != j {
-        return 0;
-    }
-    1
 }

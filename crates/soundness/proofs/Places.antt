@@ -1,7 +1,8 @@
 -- What the tests of a position decide. Assumes nothing.
 use mathlib.Core.Path.{◌≡◌, refl, sym, ◌∙◌}
-use mathlib.Core.Bool.{Bool, true, false, ◌&&◌}
+use mathlib.Core.Bool.{Bool, false, ◌&&◌}
 use mathlib.Core.List.{List}
+use mathlib.Core.Logic.{◌⊎◌, inl, inr}
 use Prim.Native.Nat.{ℕ, ◌≤◌, ◌<◌}
 use native.Mathlib.Omega.{arith}
 use lib.Dec.{eqb, leb}
@@ -49,36 +50,23 @@ module _ (s : Settings) (memory : List ℕ) (j : ℕ) where
   unfolding names_other is_other
   names_is = refl
 
-  pub stand_still_no : stage_of memory j ≡ 0 → (other_of memory j ≡ 0 → ⊥) → false ≡ stands_right s memory j
+  -- what the rule asks at each stage
+  pub stand_still : stage_of memory j ≡ 0 → stands_right s memory j ≡ eqb (other_of memory j) 0 && eqb (held_of memory j) 0
   unfolding stands_right
-  stand_still_no e h = rw (eq-eqb (stage_of memory j) 0 e, ne_eqb (other_of memory j) 0 h)
+  stand_still e = rw (eq-eqb (stage_of memory j) 0 e)
 
-  pub stand_still : stage_of memory j ≡ 0 → other_of memory j ≡ 0 → eqb (held_of memory j) 0 ≡ stands_right s memory j
+  pub stand_holds : stage_of memory j ≡ 2 → stands_right s memory j ≡ is_other s memory j (other_of memory j) && (leb 1 (held_of memory j) && leb (held_of memory j) s.m)
   unfolding stands_right
-  stand_still e h = rw (eq-eqb (stage_of memory j) 0 e, eq-eqb (other_of memory j) 0 h)
+  stand_holds e = rw (e, names_is)
 
-  module _ (n : stage_of memory j ≡ 0 → ⊥) where
-    pub stand_high : 3 < stage_of memory j → false ≡ stands_right s memory j
-    unfolding stands_right
-    stand_high h = rw (ne_eqb (stage_of memory j) 0 n, lt-leb (stage_of memory j) 3 h)
+  pub stand_free : (stage_of memory j ≡ 1) ⊎ (stage_of memory j ≡ 3) → stands_right s memory j ≡ is_other s memory j (other_of memory j) && eqb (held_of memory j) 0
+  unfolding stands_right
+  stand_free (inl e) = rw (e, names_is)
+  stand_free (inr e) = rw (e, names_is)
 
-    module _ (t : stage_of memory j ≤ 3) where
-      pub stand_other : is_other s memory j (other_of memory j) ≡ false → false ≡ stands_right s memory j
-      unfolding stands_right
-      stand_other f = rw (ne_eqb (stage_of memory j) 0 n, names_is ∙ f) (sym (and-false (leb (stage_of memory j) 3)))
-
-      module _ (f : is_other s memory j (other_of memory j) ≡ true) where
-        pub stand_empty : stage_of memory j ≡ 2 → held_of memory j < 1 → false ≡ stands_right s memory j
-        unfolding stands_right
-        stand_empty e h = rw (ne_eqb (stage_of memory j) 0 n, le-leb (stage_of memory j) 3 t, names_is ∙ f, eq-eqb (stage_of memory j) 2 e, lt-leb 1 (held_of memory j) h)
-
-        pub stand_holds : stage_of memory j ≡ 2 → 1 ≤ held_of memory j → leb (held_of memory j) s.m ≡ stands_right s memory j
-        unfolding stands_right
-        stand_holds e h = rw (ne_eqb (stage_of memory j) 0 n, le-leb (stage_of memory j) 3 t, names_is ∙ f, eq-eqb (stage_of memory j) 2 e, le-leb 1 (held_of memory j) h)
-
-        pub stand_free : (stage_of memory j ≡ 2 → ⊥) → eqb (held_of memory j) 0 ≡ stands_right s memory j
-        unfolding stands_right
-        stand_free e = rw (ne_eqb (stage_of memory j) 0 n, le-leb (stage_of memory j) 3 t, names_is ∙ f, ne_eqb (stage_of memory j) 2 e)
+  pub stand_high : 3 < stage_of memory j → stands_right s memory j ≡ false
+  unfolding stands_right
+  stand_high h = rw (ne_eqb (stage_of memory j) 0 (λ e. omega arith), lt-leb (stage_of memory j) 3 h)
 
   -- THE FOURTH RULE is what the positions show and the comparison of letters
   pub position_is : right_position s memory j ≡ stands_right s memory j && copy_right s memory j

@@ -10,7 +10,7 @@ use borrow.Author.Tests.{eq-eqb, ne_eqb, le-leb, lt-leb}
 use Rattle.words.specs.Words.{every}
 use Rattle.words.proofs.Lists.{and-true, and-false, every_at}
 use Rattle.settings.specs.declared.Settings.{Settings}
-use Rattle.settings.specs.declared.MadeSettings.TheVariants.{Made, Refused}
+use Rattle.std.specs.Prelude.{Some, None}
 use Rattle.settings.specs.Range.{in_range, InRange}
 use Rattle.settings.specs.Made.{made_settings}
 use Rattle.settings.proofs.Laws.{range-true, told_refused, told_made}
@@ -23,7 +23,7 @@ use Rattle.sound.specs.Queues.{right_queues}
 use Rattle.sound.specs.Positions.{right_position}
 use Rattle.sound.specs.Blocks.{each_once, right_letters}
 use Rattle.sound.specs.Sound.{right_size, sound}
-use Rattle.sound.proofs.Tests.{and_cross, every_same}
+use Rattle.sound.proofs.Tests.{and_assoc, and_cross, every_same}
 use Rattle.places.specs.Given.{stands_right, Looked}
 use Rattle.copies.specs.Copy.{copy_right, Lettered}
 use Rattle.soundness.specs.Parts.{node_right, seated_right, Queued}
@@ -54,15 +54,15 @@ module _ (s : Settings) (memory : List ℕ) where
       (sym (every-and (each_once s memory) (right_letters s memory) nodes))
       ∙ swap (every nodes (stands_right s memory)) (every nodes (copy_right s memory)) (every nodes (λ i. each_once s memory i && right_letters s memory i)))
 
-  pub seated-queues : every nodes (right_queues s memory) ≡ false → false ≡ seated_right s memory
-  seated-queues f = sym (seated_is ∙ rw f)
+  pub seated_no : every nodes (right_queues s memory) && (every nodes (stands_right s memory) && every nodes (node_right s memory)) ≡ false → false ≡ seated_right s memory
+  seated_no f =
+      let e : every nodes (right_queues s memory) && (every nodes (stands_right s memory) && (every nodes (node_right s memory) && every nodes (copy_right s memory)))
+      ≡ (every nodes (right_queues s memory) && (every nodes (stands_right s memory) && every nodes (node_right s memory))) && every nodes (copy_right s memory) = simp and_assoc in
+      sym (seated_is ∙ e ∙ rw f)
 
   module _ (a : every nodes (right_queues s memory) ≡ true) where
     pub queued : Sized s memory → Queued s memory
     queued z = record { sized = z; queues = λ i h. every_at (right_queues s memory) nodes a i h }
-
-    pub seated-standing : every nodes (stands_right s memory) ≡ false → false ≡ seated_right s memory
-    seated-standing f = sym (seated_is ∙ rw (a, f))
 
     module _ (b : every nodes (stands_right s memory) ≡ true) where
       pub looked : Sized s memory → right_table (table_in memory) ≡ true → Looked s memory
@@ -73,9 +73,6 @@ module _ (s : Settings) (memory : List ℕ) where
             queues = λ i h. every_at (right_queues s memory) nodes a i h;
             positions = λ i h. every_at (stands_right s memory) nodes b i h;
           }
-
-      pub seated-nodes : every nodes (node_right s memory) ≡ false → false ≡ seated_right s memory
-      seated-nodes f = sym (seated_is ∙ rw (a, b, f))
 
       module _ (c : every nodes (node_right s memory) ≡ true) where
         pub lettered : Sized s memory → right_table (table_in memory) ≡ true → Lettered s memory
@@ -104,11 +101,11 @@ module _ (memory : List ℕ) where
       let f = nodes_fit (settings_in memory) in
       sym (sound_is ∙ rw (ne_eqb (length memory) (memory_size (settings_in memory)) (λ e. omega arith), and-false (in_range (settings_in memory))))
 
-  pub sound_refused : made_settings (get_or memory 0 0) (get_or memory 1 0) (get_or memory 2 0) (get_or memory 3 0) (get_or memory 4 0) ≡ Refused → false ≡ sound memory
+  pub sound_refused : made_settings (get_or memory 0 0) (get_or memory 1 0) (get_or memory 2 0) (get_or memory 3 0) (get_or memory 4 0) ≡ None → false ≡ sound memory
   unfolding right_size
   sound_refused e = sym (sound_is ∙ rw (told_refused (get_or memory 0 0) (get_or memory 1 0) (get_or memory 2 0) (get_or memory 3 0) (get_or memory 4 0) e))
 
-  module _ (s : Settings) (e : made_settings (get_or memory 0 0) (get_or memory 1 0) (get_or memory 2 0) (get_or memory 3 0) (get_or memory 4 0) ≡ Made s) where
+  module _ (s : Settings) (e : made_settings (get_or memory 0 0) (get_or memory 1 0) (get_or memory 2 0) (get_or memory 3 0) (get_or memory 4 0) ≡ Some s) where
     told : (in_range (settings_in memory) ≡ true) × (settings_in memory ≡ s)
     told = told_made (get_or memory 0 0) (get_or memory 1 0) (get_or memory 2 0) (get_or memory 3 0) (get_or memory 4 0) s e
 

@@ -13,7 +13,7 @@ ghost use Rattle.shapes.specs.Seats.{Seats};
 ghost use Rattle.places.specs.Given.{stands_right, Looked};
 ghost use Rattle.soundness.specs.Parts.{is_other, node_right, seated_right, Queued};
 
-use settings::{MadeSettings, Settings};
+use settings::Settings;
 
 // Whether `other` is another node than j, whose send queue to j has an item.
 fn is_other(memory: &[u32], s: Settings, j: usize, other: usize) -> bool
@@ -21,10 +21,7 @@ fn is_other(memory: &[u32], s: Settings, j: usize, other: usize) -> bool
     requires j_bound { j < 6 }
     ensures { result ≡ is_other s memory.now j other }
 {
-    if 5 < other {
-        return false;
-    }
-    if other == j {
+    if 5 < other || other == j {
         return false;
     }
     let theirs = layout::stretch(memory, s, other);
@@ -33,6 +30,7 @@ fn is_other(memory: &[u32], s: Settings, j: usize, other: usize) -> bool
 }
 
 // Whether the position of node j's postman is right, but for the comparison of letters.
+#[tactic(auto, using(layout::proofs::Fits::nodes_fit, crate::proofs::Places::stand_still, crate::proofs::Places::stand_holds, crate::proofs::Places::stand_free, crate::proofs::Places::stand_high))]
 fn is_standing(memory: &[u32], s: Settings, j: usize) -> bool
     requires queued { Queued s memory.now }
     requires j_bound { j < 6 }
@@ -42,25 +40,12 @@ fn is_standing(memory: &[u32], s: Settings, j: usize) -> bool
     let stage = memory[at];
     let other = memory[at + 1] as usize;
     let held = memory[at + 2] as usize;
-    if stage == 0 {
-        if other != 0 {
-            return false;
-        }
-        return held == 0;
+    match stage {
+        0 => other == 0 && held == 0,
+        1 | 3 => is_other(memory, s, j, other) && held == 0,
+        2 => is_other(memory, s, j, other) && (1..=s.m).contains(&held),
+        _ => false,
     }
-    if 3 < stage {
-        return false;
-    }
-    if !is_other(memory, s, j, other) {
-        return false;
-    }
-    if stage == 2 {
-        if held < 1 {
-            return false;
-        }
-        return held <= s.m;
-    }
-    held == 0
 }
 
 // The same of every node.
@@ -68,12 +53,10 @@ fn are_standing(memory: &[u32], s: Settings) -> bool
     requires { Queued s memory.now }
     ensures { result ≡ every nodes (stands_right s memory.now) }
 {
-    let mut j: usize = 0;
-    while j < 6 {
+    for j in 0..6 {
         if !is_standing(memory, s, j) {
             return false;
         }
-        j += 1;
     }
     true
 }
@@ -84,12 +67,10 @@ fn are_right_queues(memory: &[u32], s: Settings, seats: &[u8; 384]) -> bool
     requires seats { Seats (table_in memory.now) seats.now }
     ensures { result ≡ every nodes (right_queues s memory.now) }
 {
-    let mut i: usize = 0;
-    while i < 6 {
+    for i in 0..6 {
         if !shapes::is_right_stretch(layout::stretch(memory, s, i), s, seats, i) {
             return false;
         }
-        i += 1;
     }
     true
 }
@@ -100,12 +81,10 @@ fn are_right_nodes(memory: &[u32], s: Settings, seats: &[u8; 384]) -> bool
     requires seats { Seats (table_in memory.now) seats.now }
     ensures { result ≡ every nodes (node_right s memory.now) }
 {
-    let mut i: usize = 0;
-    while i < 6 {
+    for i in 0..6 {
         if !places::is_right_node(memory, s, seats, i) {
             return false;
         }
-        i += 1;
     }
     true
 }
@@ -117,16 +96,10 @@ fn is_right_seated(memory: &[u32], s: Settings, seats: &[u8; 384]) -> bool
     requires seats { Seats (table_in memory.now) seats.now }
     ensures { result ≡ seated_right s memory.now }
 {
-    if !are_right_queues(memory, s, seats) {
-        return false;
-    }
-    if !are_standing(memory, s) {
-        return false;
-    }
-    if !are_right_nodes(memory, s, seats) {
-        return false;
-    }
-    copies::are_right_copies(memory, s)
+    are_right_queues(memory, s, seats)
+        && are_standing(memory, s)
+        && are_right_nodes(memory, s, seats)
+        && copies::are_right_copies(memory, s)
 }
 
 // The second to sixth rule.
@@ -135,10 +108,7 @@ fn is_right_memory(memory: &[u32], s: Settings) -> bool
     ensures { result ≡ (right_table (table_in memory.now) && seated_right s memory.now) }
 {
     let mut seats = [0u8; 384];
-    if !tasks::seat_tasks(layout::table(memory), &mut seats) {
-        return false;
-    }
-    is_right_seated(memory, s, &seats)
+    tasks::seat_tasks(layout::table(memory), &mut seats) && is_right_seated(memory, s, &seats)
 }
 
 // Whether the memory is sound: all six rules, for a slice of any length and content.
@@ -148,8 +118,7 @@ pub fn is_sound(memory: &[u32]) -> bool
     if memory.len() < 536 {
         return false;
     }
-    let made = Settings::new(memory[0], memory[1], memory[2], memory[3], memory[4]);
-    let MadeSettings::Made(s) = made else {
+    let Some(s) = Settings::new(memory[0], memory[1], memory[2], memory[3], memory[4]) else {
         return false;
     };
     if memory.len() != layout::memory_size(s) {

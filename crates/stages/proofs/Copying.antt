@@ -1,4 +1,5 @@
 -- Stage 1: the first letter of a send queue, the space for it, and its copy. Assumes nothing.
+use Rattle.std.specs.Prelude.{None, Option, Some}
 use mathlib.Core.Path.{◌≡◌, sym, ap, ◌∙◌}
 use mathlib.Core.Bool.{true, false}
 use mathlib.Core.List.{List}
@@ -16,8 +17,6 @@ use Rattle.layout.specs.Asked.{Stretch, Sized}
 use Rattle.layout.proofs.MemoryRows.{stretch-fits}
 use Rattle.blocks.specs.Chain.{needs, free}
 use Rattle.blocks.specs.Moves.{enough, taken, taken_answer}
-use Rattle.blocks.specs.declared.Taken.{Taken}
-use Rattle.blocks.specs.declared.Taken.TheVariants.{First, Short}
 use Rattle.blocks.proofs.Moves.{length-list, length_taken, taken-stretch, take_chained}
 use Rattle.letters.specs.Letter.{copied}
 use Rattle.letters.specs.Asked.{Lies}
@@ -138,16 +137,16 @@ module _ (s : Settings) (m : List ℕ) (j i : ℕ) (w : Waits s m j i 1) where
         u_long : length u ≡ node_size s
         u_long = length_taken s (node s m j) n ∙ stj.long
 
-        module _ {m₁ : List ℕ} {a : Taken} (em : m₁ ≡ with_node s m j u) (ea : a ≡ taken_answer s (node s m j) n) where
+        module _ {m₁ : List ℕ} {a : Option ℕ} (em : m₁ ≡ with_node s m j u) (ea : a ≡ taken_answer s (node s m j) n) where
           sized₁ : Sized s m₁
           sized₁ = rw em (with_sized s m waits-sized j g.postman u u_long)
 
           -- too few blocks
-          module _ (e : a ≡ Short) where
+          module _ (e : a ≡ None) where
             not-enough : enough s (node s m j) n ≡ false
             unfolding taken_answer
             not-enough =
-                told_no (enough s (node s m j) n) (First (get_or (node s m j) 0 0)) Short a ea (λ q. let z : ◌≡◌ {A = ℕ} 0 1 = cc in omega arith) e
+                told_no (enough s (node s m j) n) (Some (get_or (node s m j) 0 0)) None a ea (λ q. let z : ◌≡◌ {A = ℕ} 0 1 = cc in omega arith) e
 
             same : m₁ ≡ m
             unfolding taken
@@ -164,10 +163,10 @@ module _ (s : Settings) (m : List ℕ) (j i : ℕ) (w : Waits s m j i 1) where
                 rw (d, h)
 
           -- space taken from block c on
-          module _ {c : ℕ} (e : a ≡ First c) where
-            has : (enough s (node s m j) n ≡ true) × (First (get_or (node s m j) 0 0) ≡ First c)
+          module _ {c : ℕ} (e : a ≡ Some c) where
+            has : (enough s (node s m j) n ≡ true) × (Some (get_or (node s m j) 0 0) ≡ Some c)
             unfolding taken_answer
-            has = told_yes (enough s (node s m j) n) (First (get_or (node s m j) 0 0)) Short a ea (First c) (λ q. let z : ◌≡◌ {A = ℕ} 0 1 = cc in omega arith) e
+            has = told_yes (enough s (node s m j) n) (Some (get_or (node s m j) 0 0)) None a ea (Some c) (λ q. let z : ◌≡◌ {A = ℕ} 0 1 = cc in omega arith) e
 
             begins : c ≡ get_or (node s m j) first_free_at 0
             begins = let h = has.1 in cc

@@ -9,18 +9,17 @@ ghost use Rattle.stages_keep.specs.Steps.{on_append, copied_in, queued, acknowle
 ghost use Rattle.lending.specs.Asked.{HasFirst};
 ghost use Rattle.stages.specs.Asked.{Holds, GaveBack};
 
-use blocks::Taken;
 use postman::Stage;
-use queues::Appended;
+use queues::Full;
 use settings::Settings;
 
 // How a stage ends that appends: a full queue stops it, with that number.
-fn stage_of(done: Appended, number: u32) -> Stage
+fn stage_of(done: Result<(), Full>, number: u32) -> Stage
     ensures { result ≡ on_append done number }
 {
     match done {
-        Appended::Done => Stage::Done,
-        Appended::Full => Stage::Stopped(number),
+        Ok(()) => Stage::Done,
+        Err(Full) => Stage::Stopped(number),
     }
 }
 
@@ -32,8 +31,7 @@ pub fn copy_in(memory: &mut [u32], s: Settings, i: usize, j: usize) -> Stage
     let x = lending::first_of(memory, s, i, j);
     let length = lending::length_of(memory, s, i, x);
     let n = blocks::needs_of(s, length);
-    let taken = lending::take_space(memory, s, j, n);
-    let Taken::First(c) = taken else {
+    let Some(c) = lending::take_space(memory, s, j, n) else {
         lending::count_room(memory, s, j);
         return Stage::Stopped(5);
     };

@@ -1,4 +1,5 @@
 -- STAGE 2, 'append to the task queue, closing gaps as above': the copy in the hand is in the queue, or its full count has risen. Assumes nothing.
+use Rattle.std.specs.Prelude.{Err, Ok, Result}
 use mathlib.Core.Path.{◌≡◌, refl, sym, ap, ◌∙◌, subst}
 use mathlib.Core.List.{List, [], ◌∷◌, ◌++◌, map}
 use Prim.Native.Nat.{ℕ, ◌+◌, ◌≤◌, ◌<◌}
@@ -9,8 +10,7 @@ use Rattle.words.proofs.Lists.{put, put_same, put_other, same?}
 use Rattle.settings.specs.declared.Settings.{Settings}
 use Rattle.layout.specs.Places.{node, with_node, task_at}
 use Rattle.tasks.specs.Table.{queue_of}
-use Rattle.queues.specs.declared.Appended.{Appended}
-use Rattle.queues.specs.declared.Appended.TheVariants.{Done as Appended-done, Full as Appended-full}
+use Rattle.queues.specs.declared.Full.{Full}
 use Rattle.queues.specs.Items.{gap_flag}
 use Rattle.queues.proofs.Tasks.{TaskRing}
 use Rattle.gaps.specs.Close.{task_appended, task_answer}
@@ -102,7 +102,7 @@ module _ (s : Settings) (m : List ℕ) (j i c : ℕ) (h : j < 6) (g : i < 6) (M 
   front =
       front_with s m wk.size j h l₁ (length_task_appended s (node s m j) (task_at s q) (first L) ∙ (gives_stretch s m wk.size N wk.core j h).long)
 
-  queued_is : (a : Appended) → task_answer s (node s m j) (task_at s q) ≡ a → did m₁ (on_append a queue_full) ≡ queued s j m c
+  queued_is : (a : Result Unit Full) → task_answer s (node s m j) (task_at s q) ≡ a → did m₁ (on_append a queue_full) ≡ queued s j m c
   unfolding queued
   queued_is a z = rw (words_c, first_c, z)
 
@@ -180,10 +180,10 @@ module _ (s : Settings) (m : List ℕ) (j i c : ℕ) (h : j < 6) (g : i < 6) (M 
   second_goes =
       let P : Did → Type 0 = λ d. Goes s t d.memory j (on_stage d.how (at 2 i c) (at 3 i 0)) M (on_stage d.how [] (K.words ∷ [])) count (length ((N i).letters (1 + j))) in
       append_cases s (node s m j) (task_at s q) (firsts ls) ring
-      (λ z. subst P (queued_is Appended-done (append-room s (node s m j) (task_at s q) (firsts ls) ring (first L) begins z).1)
+      (λ z. subst P (queued_is (Ok tt) (append-room s (node s m j) (task_at s q) (firsts ls) ring (first L) begins z).1)
       (done_goes (ls ++ L ∷ []) (resume_works s t m N wk j q h q_in L one begins right_l bound (omega (arith, length-firsts ls))) (live_more ls L begins)))
-      (λ z f. subst P (queued_is Appended-done (append-gap s (node s m j) (task_at s q) (firsts ls) ring (first L) begins z f).1)
+      (λ z f. subst P (queued_is (Ok tt) (append-gap s (node s m j) (task_at s q) (firsts ls) ring (first L) begins z f).1)
       (done_goes (live_ones ls ++ L ∷ []) (resume_gap_works s t m N wk j q h q_in L one begins right_l bound (sym (length-firsts ls) ∙ z) f)
       (live_more (live_ones ls) L begins ∙ ap (λ (x : List Letter). x ++ L ∷ []) (live_twice ls))))
-      (λ z f. subst P (queued_is Appended-full (append_full s (node s m j) (task_at s q) (firsts ls) ring (first L) z f).1)
+      (λ z f. subst P (queued_is (Err (record {})) (append_full s (node s m j) (task_at s q) (firsts ls) ring (first L) z f).1)
       (full_goes (sym (length-firsts ls) ∙ z) f))

@@ -1,5 +1,5 @@
 -- The two steps of a postman's turn, stage by stage: 'Turn'.
-use Rattle.std.specs.Prelude.{Bool, cond, ◌||◌, List, ℕ, zero, suc, ◌+◌, ◌-◌, eqb, length, get_or}
+use Rattle.std.specs.Prelude.{Bool, cond, ◌||◌, List, ℕ, zero, suc, ◌+◌, ◌-◌, eqb, length, get_or, Err, Ok, Result}
 use Rattle.settings.specs.declared.Settings.{Settings}
 use Rattle.layout.specs.Places.{nodes, first_free_at, room_at, send_at, ack_at, task_at, node, with_node}
 use Rattle.layout.specs.Numbers.{destination_task_word}
@@ -7,8 +7,7 @@ use Rattle.tasks.specs.Table.{queue_of}
 use Rattle.blocks.specs.Chain.{needs}
 use Rattle.blocks.specs.Moves.{enough, taken, given_back}
 use Rattle.letters.specs.Letter.{copied}
-use Rattle.queues.specs.declared.Appended.{Appended}
-use Rattle.queues.specs.declared.Appended.TheVariants.{Done as Appended-done, Full as Appended-full}
+use Rattle.queues.specs.declared.Full.{Full}
 use Rattle.queues.specs.Queue.{send_kind, ack_kind}
 use Rattle.queues.specs.Moves.{counted, appended, append_answer, dropped}
 use Rattle.gaps.specs.Close.{task_appended, task_answer}
@@ -22,9 +21,9 @@ use Rattle.postman.specs.declared.Round.{Round}
 use Rattle.postman.specs.Round.{Did, did, Post, post, stopped, one_letter, blocks_back, stage, and_then, into}
 
 -- what an append found: it went in, or the queue was full, its count has risen, and that stops the stage with its number
-abbrev pub on_append : Appended → ℕ → Stage
-on_append Appended-done number = Done
-on_append Appended-full number = Stopped number
+abbrev pub on_append : Result Unit Full → ℕ → Stage
+on_append (Ok _) number = Done
+on_append (Err _) number = Stopped number
 
 module _ (s : Settings) (j : ℕ) where
   -- ---- step 1: 'each item of acknowledge queue j, oldest first: drop it, give its chain back in j'

@@ -1,4 +1,5 @@
 -- A call on a memory that a run has reached goes as its rules say: the test of the memory needs no computing. Assumes nothing.
+use Rattle.std.specs.Prelude.{Ok, Result}
 use mathlib.Core.Path.{◌≡◌, ap, ap₂, ◌∙◌, subst}
 use mathlib.Core.Bool.{true, ◌||◌}
 use mathlib.Core.List.{List, [], ◌∷◌, ◌++◌}
@@ -9,7 +10,7 @@ use Rattle.tasks.specs.Table.{is_bound}
 use Rattle.sound.specs.Reading.{settings_in, table_in}
 use Rattle.sound.specs.Sound.{sound}
 use Rattle.posting.specs.declared.Sent.{Sent}
-use Rattle.posting.specs.declared.Sent.TheVariants.{Done as Sent-done}
+use Rattle.posting.specs.declared.SendRefusal.{SendRefusal}
 use Rattle.send.specs.Outcome.{Outcome as SentOutcome, fits, delivered, send}
 use Rattle.receive.specs.Outcome.{Outcome as ReceivedOutcome, collected, receive}
 use Rattle.turn.specs.Outcome.{Outcome as TurnedOutcome, taken, turn}
@@ -33,7 +34,7 @@ module _ (p : Past) (o : List ℕ) (acc rec : List (List ℕ)) (at : At p o acc 
     unfolding send
     send_in x y z = ap (λ (m : List ℕ). send m a b body) at.memory ∙ rw (safe, x, y, z)
 
-    pub sends : (n : ℕ) → is_bound (table_in o) a ≡ true → is_bound (table_in o) b ≡ true → fits (settings_in o) (length body) ≡ true → (delivered o a b body).answer ≡ Sent-done n
+    pub sends : (n : ℕ) → is_bound (table_in o) a ≡ true → is_bound (table_in o) b ≡ true → fits (settings_in o) (length body) ≡ true → (delivered o a b body).answer ≡ Ok (record { blocks = n })
         → At (after_call p (Sends a b body)) (delivered o a b body).memory (acc ++ sent_letter (table_in o) a b body ∷ []) rec
     unfolding after_call
     sends n x y z d =
@@ -41,7 +42,7 @@ module _ (p : Past) (o : List ℕ) (acc rec : List (List ℕ)) (at : At p o acc 
         record {
           kept = goes_on p at.kept (Sends a b body);
           memory = ap (λ (r : SentOutcome). r.memory) e;
-          taken_in = ap₂ (λ (l : List (List ℕ)) (r : Sent). l ++ accepted_by r (sent_letter (table_in p.memory) a b body)) at.taken_in (ap (λ (r : SentOutcome). r.answer) e ∙ d)
+          taken_in = ap₂ (λ (l : List (List ℕ)) (r : Result Sent SendRefusal). l ++ accepted_by r (sent_letter (table_in p.memory) a b body)) at.taken_in (ap (λ (r : SentOutcome). r.answer) e ∙ d)
               ∙ ap (λ (m : List ℕ). acc ++ sent_letter (table_in m) a b body ∷ []) at.memory;
           given_out = at.given_out;
         }

@@ -23,7 +23,6 @@ use Rattle.taking.specs.Find.{from, wanted, first_from}
 use Rattle.taking.specs.Take.{cleared, first_out, out, flagged}
 use Rattle.sound.specs.Reading.{stage_of, other_of, held_of}
 use Rattle.sound.specs.Letters.{words_from}
-use Rattle.setup.specs.declared.SetUp.TheVariants.{Done as SetUp-done}
 use Rattle.setup.specs.Outcome.{set_up}
 use Rattle.setup.specs.Fresh.{next_free, fresh_block, fresh_blocks, fresh_front, fresh_node, fresh_nodes, fresh_head, fresh_memory}
 use Rattle.letters.specs.Made.{letter_of}
@@ -34,7 +33,8 @@ use Rattle.receive.specs.Outcome.{collected as receive_collected}
 use Rattle.postman.specs.Position.{standing, kept}
 use Rattle.postman.specs.Round.{stage, and_then, into}
 use Rattle.stages_keep.specs.Steps.{collected as collected_one, collected_all, collected_from, copied_in, queued, acknowledged, handed_on, delivered as delivered_on, carried, carried_all, carried_from, clears_first, resumed, gone}
-use Rattle.turn.specs.declared.Turned.TheVariants.{Finished, Stopped}
+use Rattle.std.specs.Prelude.{Ok}
+use Rattle.postman.specs.declared.Stage.TheVariants.{Done, Stopped}
 use Rattle.turn.specs.Outcome.{taken as turn_taken}
 use Rattle.showing.specs.List.{handed_over, shown, from_task, from_send, waiting, from_nodes, of_task, of_tasks, listed, laid_out}
 use Rattle.history.specs.Runs.{Sends, Receives, Turns, Past, after_call, after_all}
@@ -89,15 +89,15 @@ abbrev m₁₉ : List ℕ
 m₁₉ = turned m₁₈
 
 -- ---- the turns of node 1: node, letters appended, blocks given back
-pub stops_at_3 : (turn_taken m₄).answer ≡ Stopped 10 1 3 0
+pub stops_at_3 : (turn_taken m₄).answer ≡ Ok (record { node = 1; letters = 3; back = 0; how = Stopped 10 })
 unfolding send_delivered goal_of posted_in posted has_room appended_to full_of put_in fits letter_of laid onto enough taken_from blocks_taken given_back needs chain list after_links text words_from letter copied counted appended append_answer added dropped closed cramped roomy gaps_laid live gap_flag run more is_bound holds_none node_at task_at send_at ack_at block_at blocks_at node_size memory_size next_free fresh_block fresh_blocks fresh_front fresh_node fresh_nodes fresh_head fresh_memory standing kept stage and_then into collected_one collected_all collected_from copied_in queued acknowledged handed_on delivered_on carried carried_all carried_from clears_first resumed gone turn_taken
 stops_at_3 = refl
 
-pub stops_at_2 : (turn_taken m₁₁).answer ≡ Stopped 6 1 0 0
+pub stops_at_2 : (turn_taken m₁₁).answer ≡ Ok (record { node = 1; letters = 0; back = 0; how = Stopped 6 })
 unfolding send_delivered goal_of posted_in posted has_room appended_to full_of put_in fits letter_of laid onto enough taken_from blocks_taken given_back needs chain list after_links text words_from letter copied counted appended append_answer added dropped closed cramped roomy gaps_laid live gap_flag run more is_bound holds_none node_at task_at send_at ack_at block_at blocks_at node_size memory_size next_free fresh_block fresh_blocks fresh_front fresh_node fresh_nodes fresh_head fresh_memory standing kept stage and_then into collected_one collected_all collected_from copied_in queued acknowledged handed_on delivered_on carried carried_all carried_from clears_first resumed gone turn_taken
 stops_at_2 = refl
 
-pub finishes : (turn_taken m₁₈).answer ≡ Finished 1 1 0
+pub finishes : (turn_taken m₁₈).answer ≡ Ok (record { node = 1; letters = 1; back = 0; how = Done })
 unfolding send_delivered goal_of posted_in posted has_room appended_to full_of put_in fits letter_of laid onto enough taken_from blocks_taken given_back needs chain list after_links text words_from letter copied counted appended append_answer added dropped closed cramped roomy gaps_laid live gap_flag run more is_bound holds_none node_at task_at send_at ack_at block_at blocks_at node_size memory_size next_free fresh_block fresh_blocks fresh_front fresh_node fresh_nodes fresh_head fresh_memory standing kept stage and_then into collected_one collected_all collected_from copied_in queued acknowledged handed_on delivered_on carried carried_all carried_from clears_first resumed gone turn_taken receive_collected took took_at in_vain filled emptied cleared first_out out flagged wanted from first_from
 finishes = refl
 
@@ -111,7 +111,7 @@ unfolding send_delivered goal_of posted_in posted has_room appended_to full_of p
 stage_2 = (refl, refl, refl)
 
 -- ---- the run itself comes to these memories
-set_up_done : (set_up small table (replicate 3824 0)).answer ≡ SetUp-done
+set_up_done : (set_up small table (replicate 3824 0)).answer ≡ Ok tt
 unfolding set_up in_range within right_table holds_none is_bound has_seat share_seat seated apart every node_size memory_size
 set_up_done = refl
 

@@ -1,4 +1,5 @@
 -- What a turn of each loop passes, and what the tests of `is_from` and `look` tell. Assumes nothing.
+use Rattle.std.specs.Prelude.{None, Some}
 use mathlib.Core.Path.{◌≡◌, refl, ap, ◌∙◌}
 use mathlib.Core.Bool.{Bool, true, false}
 use mathlib.Core.List.{List}
@@ -16,7 +17,6 @@ use Rattle.queues.specs.Queue.{item_at, slot_at, run, items, contents, task_kind
 use Rattle.queues.specs.Moves.{dropped}
 use Rattle.queues.specs.Items.{gap_flag}
 use Rattle.taking.specs.declared.Seen.TheVariants.{Here, Past, End}
-use Rattle.taking.specs.declared.Found.TheVariants.{At, Nothing}
 use Rattle.taking.specs.Find.{from, wanted, seen, first_from}
 use Rattle.taking.specs.Take.{cleared, first_out, out, flagged, taken_out}
 
@@ -37,6 +37,10 @@ module _ (k : Kind) (l : List ℕ) (q : ℕ) where
   cleared-stop zero h = refl
   cleared-stop (suc n) h = rw (ne_eqb (item_at k l q 0) 0 h)
 
+  pub cleared_none : (n : ℕ) → n ≡ 0 → cleared k q n l ≡ l
+  unfolding cleared
+  cleared_none n e = rw e
+
   -- ---- from place i on, of n items
   module _ (i n : ℕ) (h : i < n) where
     left : n - i ≡ suc (n - (i + 1))
@@ -50,7 +54,7 @@ module _ (k : Kind) (l : List ℕ) (q : ℕ) where
     unfolding run gap_flag
     flag-live e = ap (λ (m : ℕ). gap_flag (run k l q i m)) left ∙ rw (ne_eqb (item_at k l q i) 0 e)
 
-    pub first_here : (p : ℕ → Bool) → p (item_at k l q i) ≡ true → first_from p i (run k l q i (n - i)) ≡ At i
+    pub first_here : (p : ℕ → Bool) → p (item_at k l q i) ≡ true → first_from p i (run k l q i (n - i)) ≡ Some i
     unfolding run first_from
     first_here p e = rw (left, e)
 
@@ -62,7 +66,7 @@ module _ (k : Kind) (l : List ℕ) (q : ℕ) where
     over : n - i ≡ 0
     over = omega arith
 
-    pub first_none : (p : ℕ → Bool) → first_from p i (run k l q i (n - i)) ≡ Nothing
+    pub first_none : (p : ℕ → Bool) → first_from p i (run k l q i (n - i)) ≡ None
     unfolding run first_from
     first_none p = rw over
 

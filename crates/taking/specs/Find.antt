@@ -1,5 +1,5 @@
 -- Finding a letter in a task queue: 'Receive'.
-use Rattle.std.specs.Prelude.{Bool, true, false, cond, List, [], ◌∷◌, ℕ, ◌+◌, ◌≤◌, ◌<◌, eqb, leb, get_or}
+use Rattle.std.specs.Prelude.{Bool, true, false, cond, List, [], ◌∷◌, ℕ, ◌+◌, ◌≤◌, ◌<◌, eqb, leb, get_or, None, Option, Some}
 use Rattle.settings.specs.declared.Settings.{Settings}
 use Rattle.layout.specs.Places.{block_at}
 use Rattle.layout.specs.Numbers.{source_task_word}
@@ -7,8 +7,6 @@ use Rattle.layout.specs.Asked.{Stretch}
 use Rattle.queues.specs.Queue.{Queue, items, item_at, contents, task_kind}
 use Rattle.taking.specs.declared.Seen.{Seen}
 use Rattle.taking.specs.declared.Seen.TheVariants.{Here, Past, End}
-use Rattle.taking.specs.declared.Found.{Found}
-use Rattle.taking.specs.declared.Found.TheVariants.{At, Nothing}
 
 -- the letter that block b begins is from the source; source 0 stands for any
 unfoldable pub from : Settings → List ℕ → ℕ → ℕ → Bool
@@ -19,12 +17,12 @@ unfoldable pub wanted : Settings → List ℕ → ℕ → ℕ → Bool
 wanted s node source b = cond (eqb b 0) false (from s node source b)
 
 -- the first place whose item passes the test; the first item of the list stands at place i
-unfoldable pub first_from : (ℕ → Bool) → ℕ → List ℕ → Found
-first_from p i [] = Nothing
-first_from p i (x ∷ xs) = cond (p x) (At i) (first_from p (i + 1) xs)
+unfoldable pub first_from : (ℕ → Bool) → ℕ → List ℕ → Option ℕ
+first_from p i [] = None
+first_from p i (x ∷ xs) = cond (p x) (Some i) (first_from p (i + 1) xs)
 
 -- 'Source 0 takes the first letter; otherwise the first from that source'
-abbrev pub found : Settings → List ℕ → ℕ → ℕ → Found
+abbrev pub found : Settings → List ℕ → ℕ → ℕ → Option ℕ
 found s node q source = first_from (wanted s node source) 0 (contents (task_kind s) node q)
 
 -- what stands at place i: the wanted letter, the queue's end, or something to pass over

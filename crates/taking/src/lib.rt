@@ -11,14 +11,8 @@ ghost use Rattle.taking.specs.Take.{cleared, out, taken_out, Place};
 use queues::Kind;
 use settings::Settings;
 
-#[derive(Clone, Copy)]
-pub enum Found {
-    At(usize),
-    Nothing,
-}
-
 // What stands at a place: the wanted letter, something to pass over, or the queue's end.
-#[derive(Clone, Copy)]
+#[derive(Clone, Copy, Debug, PartialEq, Eq)]
 pub enum Seen {
     Here,
     Past,
@@ -31,11 +25,7 @@ fn is_from(node: &[u32], s: Settings, source: u32, b: u32) -> bool
     requires le_b { (1 ≤ b) × (b ≤ s.m) }
     ensures { result ≡ from s node.now source b }
 {
-    if source == 0 {
-        return true;
-    }
-    let at = layout::block_at(s, b as usize);
-    node[at] == source
+    source == 0 || node[layout::block_at(s, b as usize)] == source
 }
 
 // What stands at place i: a gap is passed over, and is not the end.
@@ -58,21 +48,20 @@ fn look(node: &[u32], s: Settings, q: usize, source: u32, i: usize) -> Seen
     Seen::Past
 }
 
-// The place of the first letter from the source.
-pub fn find(node: &[u32], s: Settings, q: usize, source: u32) -> Found
+// The place of the first letter from the source, if there is one.
+pub fn find(node: &[u32], s: Settings, q: usize, source: u32) -> Option<usize>
     requires { Findable s node.now q }
     ensures { result ≡ found s node.now q source }
 {
-    let mut i: usize = 0;
-    loop {
-        let there = look(node, s, q, source, i);
-        match there {
-            Seen::Here => return Found::At(i),
-            Seen::End => return Found::Nothing,
+    let items = queues::items_of(node, queues::task_kind(s), q);
+    for i in 0..items {
+        match look(node, s, q, source, i) {
+            Seen::Here => return Some(i),
+            Seen::End => break,
             Seen::Past => {}
         }
-        i += 1;
     }
+    None
 }
 
 // Drops the zeroes at the front.
@@ -80,14 +69,8 @@ fn drop_zeroes(node: &mut [u32], k: Kind, q: usize)
     requires { Queue k node.old q }
     ensures { node.new ≡ cleared k q (items k node.old q) node.old }
 {
-    let mut left = queues::items_of(node, k, q);
-    while left > 0 {
-        let first = queues::item(node, k, q, 0);
-        if first != 0 {
-            return;
-        }
+    while queues::items_of(node, k, q) > 0 && queues::item(node, k, q, 0) == 0 {
         queues::drop_first(node, k, q);
-        left -= 1;
     }
 }
 
@@ -97,13 +80,10 @@ pub fn gap_flag(node: &[u32], k: Kind, q: usize) -> u32
     ensures { result ≡ gap_flag (contents k node.now q) }
 {
     let items = queues::items_of(node, k, q);
-    let mut i: usize = 0;
-    while i < items {
-        let x = queues::item(node, k, q, i);
-        if x == 0 {
+    for i in 0..items {
+        if queues::item(node, k, q, i) == 0 {
             return 1;
         }
-        i += 1;
     }
     0
 }

@@ -1,5 +1,5 @@
 -- The task table's rule and the seats, by the tests on the way. Assumes nothing.
-use mathlib.Core.Path.{◌≡◌, refl}
+use mathlib.Core.Path.{◌≡◌, refl, sym, ap}
 use mathlib.Core.Bool.{Bool, true, false, ◌&&◌, ◌||◌, not}
 use mathlib.Core.List.{List}
 use Prim.Native.Nat.{ℕ, ◌≤◌, ◌<◌}
@@ -7,22 +7,23 @@ use lib.ListN.{length}
 use native.Mathlib.Omega.{arith}
 use lib.Dec.{ltb, leb, eqb}
 use borrow.Author.Tests.{lt-ltb, le-ltb, ltb-true, leb-true, eq-eqb, ne_eqb, eqb-true, not-true}
-use Rattle.words.proofs.Lists.{and-false, and-true, every_at, told_no, told_yes}
+use Rattle.words.proofs.Lists.{and-false, and-true, every_at, told_none, told_some}
 use Rattle.layout.specs.Places.{task_ids, table_words}
 use Rattle.tasks.specs.Table.{node_of, queue_of, holds_none, is_bound, has_seat, seated, apart, right_table}
 use Rattle.tasks.specs.Seat.{seat_of}
-use Rattle.tasks.specs.declared.Seat.TheVariants.{At, Unbound}
+use Rattle.tasks.specs.declared.Seat.{Seat}
+use Rattle.std.specs.Prelude.{Some, None}
 
 module _ (t : List ℕ) (id : ℕ) where
-  pub seat_over : 255 < id → Unbound ≡ seat_of t id
+  pub seat_over : 255 < id → None ≡ seat_of t id
   unfolding seat_of is_bound
   seat_over h = rw (le-ltb id 256 h)
 
-  pub seat_none : holds_none t id ≡ true → Unbound ≡ seat_of t id
+  pub seat_none : holds_none t id ≡ true → None ≡ seat_of t id
   unfolding seat_of is_bound
   seat_none h = simp (h, and-false (ltb id task_ids))
 
-  pub seat_at_lem : id ≤ 255 → holds_none t id ≡ false → At (node_of t id) (queue_of t id) ≡ seat_of t id
+  pub seat_at_lem : id ≤ 255 → holds_none t id ≡ false → Some (record { node = node_of t id; queue = queue_of t id }) ≡ seat_of t id
   unfolding seat_of is_bound
   seat_at_lem l h = simp (h, lt-ltb id 256 (omega arith))
 
@@ -46,17 +47,16 @@ module _ (t : List ℕ) where
 
 -- ---- what a seat that was told says of the task
 module _ (t : List ℕ) (id : ℕ) where
-  pub told-unbound : seat_of t id ≡ Unbound → is_bound t id ≡ false
+  pub told-unbound : seat_of t id ≡ None → is_bound t id ≡ false
   unfolding seat_of
   told-unbound e =
-      told_no (is_bound t id) (At (node_of t id) (queue_of t id)) Unbound (seat_of t id) refl (λ q. let z : ◌≡◌ {A = ℕ} 0 1 = cc in omega arith) e
+      told_none (is_bound t id) (record { node = node_of t id; queue = queue_of t id }) (seat_of t id) refl e
 
-  pub told_at : (i q : ℕ) → seat_of t id ≡ At i q → (is_bound t id ≡ true) × ((i ≡ node_of t id) × (q ≡ queue_of t id))
+  pub told_at : (i q : ℕ) → seat_of t id ≡ Some (record { node = i; queue = q }) → (is_bound t id ≡ true) × ((i ≡ node_of t id) × (q ≡ queue_of t id))
   unfolding seat_of
   told_at i q e =
-      let y = told_yes (is_bound t id) (At (node_of t id) (queue_of t id)) Unbound (seat_of t id) refl (At i q) (λ q. let z : ◌≡◌ {A = ℕ} 0 1 = cc in omega arith) e in
-      let w = y.1 in
-      (y.0, (cc, cc))
+      let y = told_some (is_bound t id) (record { node = node_of t id; queue = queue_of t id }) (seat_of t id) refl (record { node = i; queue = q }) e in
+      (y.0, (sym (ap (λ (x : Seat). x.node) y.1), sym (ap (λ (x : Seat). x.queue) y.1)))
 
   -- 'has node 0-5 and queue 0-63': a bound task of a table that keeps the rule
   pub seat-within : right_table t ≡ true → is_bound t id ≡ true → (node_of t id ≤ 5) × (queue_of t id ≤ 63)

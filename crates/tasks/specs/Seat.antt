@@ -1,12 +1,11 @@
 -- Where a task sits: its node and its queue; and the row of all seats.
-use Rattle.std.specs.Prelude.{cond, List, ℕ, zero, suc, ◌+◌, ◌*◌, set, replicate}
+use Rattle.std.specs.Prelude.{cond, List, Option, Some, None, ℕ, zero, suc, ◌+◌, ◌*◌, set, replicate}
 use Rattle.tasks.specs.Table.{node_of, queue_of, is_bound}
 use Rattle.tasks.specs.declared.Seat.{Seat}
-use Rattle.tasks.specs.declared.Seat.TheVariants.{At, Unbound}
 
--- any task number: its node and queue where it is bound
-unfoldable pub seat_of : List ℕ → ℕ → Seat
-seat_of table task = cond (is_bound table task) (At (node_of table task) (queue_of table task)) Unbound
+-- any task number: its node and queue where it is bound, none where it is not
+unfoldable pub seat_of : List ℕ → ℕ → Option Seat
+seat_of table task = cond (is_bound table task) (Some (record { node = node_of table task; queue = queue_of table task })) None
 
 -- the place of the seat at node i and queue q, in the row of all 384
 abbrev pub seat_at : ℕ → ℕ → ℕ

@@ -12,10 +12,7 @@ fn holds_none(table: &[u32], id: usize) -> bool
     requires id_lt_task_ids { id < task_ids }
     ensures { result ≡ holds_none table.now id }
 {
-    if table[id * 2] != 255 {
-        return false;
-    }
-    table[id * 2 + 1] == 0
+    table[id * 2] == 255 && table[id * 2 + 1] == 0
 }
 
 // Whether each id below 256 is unbound or sits where no other does; puts each on its seat.
@@ -26,8 +23,7 @@ fn seat_each(table: &[u32], seats: &mut [u8; 384]) -> bool
     ensures answer { result ≡ seated table.now && apart table.now }
     ensures row { result ≡ true → seats.new ≡ seat_row table.now task_ids }
 {
-    let mut id = 0;
-    while id < 256 {
+    for id in 0..256 {
         if !holds_none(table, id) {
             let node = table[id * 2];
             let queue = table[id * 2 + 1];
@@ -43,7 +39,6 @@ fn seat_each(table: &[u32], seats: &mut [u8; 384]) -> bool
             }
             seats[seat] = id as u8;
         }
-        id += 1;
     }
     true
 }
@@ -55,10 +50,7 @@ pub fn seat_tasks(table: &[u32], seats: &mut [u8; 384]) -> bool
     ensures answer { result ≡ right_table table.now }
     ensures row { result ≡ true → seats.new ≡ seat_row table.now task_ids }
 {
-    if !holds_none(table, 0) {
-        return false;
-    }
-    seat_each(table, seats)
+    holds_none(table, 0) && seat_each(table, seats)
 }
 
 // The second rule of a sound memory, for a table of any length and content.
@@ -73,23 +65,26 @@ pub fn is_right(table: &[u32]) -> bool
 }
 
 // Where a task sits.
-#[derive(Clone, Copy)]
-pub enum Seat {
-    At(u32, u32),
-    Unbound,
+#[derive(Clone, Copy, Debug, PartialEq, Eq)]
+pub struct Seat {
+    pub node: u32,
+    pub queue: u32,
 }
 
-// The node and the queue of any task number, or that it is bound to none.
-pub fn seat_of(table: &[u32], task: u32) -> Seat
+// The node and the queue of any task number; none where it is unbound.
+pub fn seat_of(table: &[u32], task: u32) -> Option<Seat>
     requires { length table.now ≡ table_words }
     ensures { result ≡ seat_of table.now task }
 {
     if 255 < task {
-        return Seat::Unbound;
+        return None;
     }
     let id = task as usize;
     if holds_none(table, id) {
-        return Seat::Unbound;
+        return None;
     }
-    Seat::At(table[id * 2], table[id * 2 + 1])
+    Some(Seat {
+        node: table[id * 2],
+        queue: table[id * 2 + 1],
+    })
 }

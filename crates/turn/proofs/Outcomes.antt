@@ -11,8 +11,6 @@ use Rattle.layout.proofs.Fits.{nodes_fit}
 use Rattle.sound.specs.Reading.{settings_in, turn_in}
 use Rattle.sound.specs.Sound.{sound}
 use Rattle.sound.proofs.Gives.{gives_sized, gives_turn}
-use Rattle.postman.specs.declared.Stage.{Stage}
-use Rattle.postman.specs.declared.Stage.TheVariants.{Done, Stopped as Halted}
 use Rattle.postman.specs.declared.Position.{Position}
 use Rattle.postman.specs.declared.Round.{Round}
 use Rattle.postman.specs.Position.{position_of, kept}
@@ -21,19 +19,13 @@ use Rattle.postman.specs.Asked.{SoundAt}
 use Rattle.stages_keep.specs.Steps.{gone}
 use Rattle.stages_keep.proofs.Laws.{begins}
 use Rattle.turn.specs.declared.Turned.{Turned}
-use Rattle.turn.specs.declared.Turned.TheVariants.{Finished, Stopped, NotSound}
+use Rattle.turn.specs.declared.TurnRefusal.{TurnRefusal}
+use Rattle.turn.specs.declared.TurnRefusal.TheVariants.{NotSound}
+use Rattle.std.specs.Prelude.{Result, Ok, Err}
 use Rattle.turn.specs.Outcome.{Outcome, answered, taken, turn}
 
-abbrev out : Turned → List ℕ → Outcome
+abbrev out : Result Turned TurnRefusal → List ℕ → Outcome
 out a m = record { answer = a; memory = m }
-
--- ---- what is answered
-module _ (j : ℕ) (r : Round) (h : Stage) where
-  pub answered-done : h ≡ Done → Finished j r.letters r.back ≡ answered j r h
-  answered-done e = rw e
-
-  pub answered-stop : (n : ℕ) → h ≡ Halted n → Stopped n j r.letters r.back ≡ answered j r h
-  answered-stop n e = rw e
 
 -- ---- a sound memory
 module _ (m : List ℕ) (e : sound m ≡ true) where
@@ -47,16 +39,16 @@ module _ (m : List ℕ) (e : sound m ≡ true) where
     pub sound-stands : SoundAt s m j p
     sound-stands = rw (ep, ej, es) (begins m e)
 
-    pub sound-turned : {m₁ m₂ : List ℕ} {r : Round} {a : Turned} → post m₁ r ≡ gone s j m p at_start → m₂ ≡ kept m₁ j r.position → a ≡ answered j r r.how
-        → out a m₂ ≡ turn m
+    pub sound-turned : {m₁ m₂ : List ℕ} {r : Round} {a : Turned} → post m₁ r ≡ gone s j m p at_start → m₂ ≡ kept m₁ j r.position → a ≡ answered j r
+        → out (Ok a) m₂ ≡ turn m
     unfolding turn taken
     sound-turned {m₁} {m₂} {r} {a} eg em ea =
         let q : post m₁ r ≡ gone (settings_in m) (turn_in m) m (position_of m (turn_in m)) at_start = eg ∙ rw (ep, ej, es) in
         let f : m₂ ≡ kept m₁ (turn_in m) r.position = rw ej at em in
-        let h : a ≡ answered (turn_in m) r r.how = rw ej at ea in
-        ap₂ out h f ∙ ap (λ (x : Post). out (answered (turn_in m) x.round x.round.how) (kept x.memory (turn_in m) x.round.position)) q ∙ rw e
+        let h : a ≡ answered (turn_in m) r = rw ej at ea in
+        ap₂ (λ (x : Turned). out (Ok x)) h f ∙ ap (λ (x : Post). out (Ok (answered (turn_in m) x.round)) (kept x.memory (turn_in m) x.round.position)) q ∙ rw e
 
 -- a memory that is not sound is refused by 1, and nothing changes
-pub not_sound_lem : (m : List ℕ) → sound m ≡ false → out NotSound m ≡ turn m
+pub not_sound_lem : (m : List ℕ) → sound m ≡ false → out (Err NotSound) m ≡ turn m
 unfolding turn
 not_sound_lem m e = rw e

@@ -1,7 +1,7 @@
 // The postman's turn: the fifth call.
 #![tactic(auto)]
 
-ghost use Rattle.std.specs.Prelude.{◌≡◌, true};
+ghost use Rattle.std.specs.Prelude.{◌≡◌, true, Ok, Err};
 ghost use Rattle.sound.specs.Sound.{sound};
 ghost use Rattle.postman.specs.Round.{post, at_start};
 ghost use Rattle.postman.specs.Asked.{SoundAt};
@@ -12,12 +12,48 @@ use answers::Answer;
 use postman::{Position, Round, Stage};
 use settings::Settings;
 
-// What a turn answers: node, letters appended to task queues, blocks given back; first the number where it stopped.
-#[derive(Clone, Copy)]
-pub enum Turned {
-    Finished(u32, u32, u32),
-    Stopped(u32, u32, u32, u32),
+// What a turn that is done answers: node, letters appended to task queues, blocks given back, and how its last stage ended.
+#[derive(Clone, Copy, Debug, PartialEq, Eq)]
+pub struct Turned {
+    pub node: u32,
+    pub letters: u32,
+    pub back: u32,
+    pub how: Stage,
+}
+
+// Why a turn was refused.
+#[derive(Clone, Copy, Debug, PartialEq, Eq)]
+pub enum TurnRefusal {
     NotSound,
+}
+
+// Node, letters and blocks; the number is that of the stage which stopped the turn.
+impl From<Turned> for Answer {
+    ghost from_gives = { λ turned a. a ≡ told (Ok turned) };
+
+    fn from(turned: Turned) -> Answer {
+        let number = match turned.how {
+            Stage::Done => 0,
+            Stage::Stopped(number) => number,
+        };
+        Answer {
+            number,
+            first: turned.node,
+            second: turned.letters,
+            third: turned.back,
+        }
+    }
+}
+
+// The number of each refusal.
+impl From<TurnRefusal> for Answer {
+    ghost from_gives = { λ refusal a. a ≡ told (Err refusal) };
+
+    fn from(refusal: TurnRefusal) -> Answer {
+        answers::bare(match refusal {
+            TurnRefusal::NotSound => 1,
+        })
+    }
 }
 
 // Where the postman stands, he goes on: stages 0 and 1 do step 1, stages 2 and 3 go straight to their append.
@@ -53,19 +89,20 @@ fn go(memory: &mut [u32], s: Settings, j: usize, p: Position) -> Round
     carrying::carry_from(memory, s, j, i, a)
 }
 
-// What a turn of node j answers, by how its last stage ended.
+// What a turn of node j answers.
 fn answer_of(j: u32, r: Round) -> Turned
-    ensures { result ≡ answered j r r.how }
+    ensures { result ≡ answered j r }
 {
-    let how = r.how;
-    match how {
-        Stage::Done => Turned::Finished(j, r.letters, r.back),
-        Stage::Stopped(number) => Turned::Stopped(number, j, r.letters, r.back),
+    Turned {
+        node: j,
+        letters: r.letters,
+        back: r.back,
+        how: r.how,
     }
 }
 
 // A turn, in a sound memory.
-fn turn_sound(memory: &mut [u32]) -> Turned
+fn turn_sound(memory: &mut [u32]) -> Result<Turned, TurnRefusal>
     requires { sound memory.old ≡ true }
     ensures { record { answer = result; memory = memory.new } ≡ turn memory.old }
 {
@@ -76,36 +113,15 @@ fn turn_sound(memory: &mut [u32]) -> Turned
     let r = go(memory, s, j, p);
     let position = r.position;
     postman::keep(memory, j, position);
-    answer_of(node, r)
-}
-
-// The answer's number and values.
-pub fn number_of(answer: Turned) -> Answer
-    ensures { result ≡ told answer }
-{
-    match answer {
-        Turned::Finished(node, letters, back) => Answer {
-            number: 0,
-            first: node,
-            second: letters,
-            third: back,
-        },
-        Turned::Stopped(number, node, letters, back) => Answer {
-            number,
-            first: node,
-            second: letters,
-            third: back,
-        },
-        Turned::NotSound => answers::bare(1),
-    }
+    Ok(answer_of(node, r))
 }
 
 // A turn, for any memory.
-pub fn turn(memory: &mut [u32]) -> Turned
+pub fn turn(memory: &mut [u32]) -> Result<Turned, TurnRefusal>
     ensures { record { answer = result; memory = memory.new } ≡ turn memory.old }
 {
     if !soundness::is_sound(memory) {
-        return Turned::NotSound;
+        return Err(TurnRefusal::NotSound);
     }
     turn_sound(memory)
 }

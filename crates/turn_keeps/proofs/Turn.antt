@@ -1,6 +1,7 @@
 -- A SOUND MEMORY STAYS SOUND, whether the turn finishes or stops; and what the turn does to the machine. Assumes nothing.
 --     turn-sound     of a sound memory; turn_fixed     size, settings and task table stay
 --     turn-turns     the letters carried, and the letters on the way the same; turn_refused     another memory stays
+use Rattle.std.specs.Prelude.{Ok}
 use mathlib.Core.Path.{◌≡◌, refl, sym, ap, ◌∙◌, subst}
 use mathlib.Core.Bool.{true, false}
 use mathlib.Core.List.{List, ◌++◌, map}
@@ -149,16 +150,12 @@ module _ (m : List ℕ) (e : sound m ≡ true) where
   unfolding turn taken
   memory_is = rw e
 
-  answer_is : (turn m).answer ≡ answered (turn_in m) post.round post.round.how
+  answer_is : (turn m).answer ≡ Ok (answered (turn_in m) post.round)
   unfolding turn taken
   answer_is = rw e
 
   letters_is : letters_of (turn m).answer ≡ length w.news
-  letters_is = omega (arith, ap letters_of answer_is, told post.round.how, w.letters)
-    where
-      told : (x : Stage) → letters_of (answered (turn_in m) post.round x) ≡ post.round.letters
-      told Done = refl
-      told (Halted n) = refl
+  letters_is = omega (arith, ap letters_of answer_is, w.letters)
 
   pub turn-sound : sound (turn m).memory ≡ true
   turn-sound = ap sound memory_is ∙ sound₂

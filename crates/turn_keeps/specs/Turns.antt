@@ -1,16 +1,15 @@
 -- What a turn does to the machine that a memory spells: 'Turn'.
-use Rattle.std.specs.Prelude.{◌≡◌, List, ℕ, length}
+use Rattle.std.specs.Prelude.{◌≡◌, List, ℕ, length, Result, Ok, Err}
 use Rattle.machine.specs.Machine.{Machine}
 use Rattle.stages_keep.specs.Way.{SameWay, Carries}
 use Rattle.postman.specs.Position.{next_turn}
 use Rattle.turn.specs.declared.Turned.{Turned}
-use Rattle.turn.specs.declared.Turned.TheVariants.{Finished, Stopped, NotSound}
+use Rattle.turn.specs.declared.TurnRefusal.{TurnRefusal}
 
 -- 'letters appended to task queues', as the answer tells them
-abbrev pub letters_of : Turned → ℕ
-letters_of (Finished j letters back) = letters
-letters_of (Stopped number j letters back) = letters
-letters_of NotSound = 0
+abbrev pub letters_of : Result Turned TurnRefusal → ℕ
+letters_of (Ok turned) = turned.letters
+letters_of (Err _) = 0
 
 -- the turn of node j, finished or stopped
 pub record Turns (table : List ℕ) (before after : Machine) (j letters : ℕ) : Type 0 where

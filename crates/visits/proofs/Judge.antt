@@ -1,4 +1,5 @@
 -- What the tests of a letter decide together. Assumes nothing.
+use Rattle.std.specs.Prelude.{Option}
 use mathlib.Core.Path.{◌≡◌, refl, sym, ap, ap₂, ◌∙◌}
 use mathlib.Core.Bool.{Bool, true, false, ◌&&◌, false≢true}
 use mathlib.Core.List.{List, [], ◌∷◌, ◌++◌, append-nil, append_assoc}
@@ -11,7 +12,7 @@ use Rattle.words.proofs.Lists.{and-true, and-false, told_no, told_yes}
 use Rattle.settings.specs.declared.Settings.{Settings}
 use Rattle.tasks.specs.Table.{node_of, is_bound}
 use Rattle.tasks.specs.Seat.{seat_of}
-use Rattle.tasks.specs.declared.Seat.TheVariants.{At, Unbound}
+use Rattle.std.specs.Prelude.{Some, None}
 use Rattle.tasks.proofs.Laws.{told-unbound, told_at}
 use Rattle.queues.specs.Items.{live}
 use Rattle.queues.proofs.Items.{live_cons}
@@ -19,20 +20,18 @@ use Rattle.blocks.proofs.Moves.{length-list}
 use Rattle.sound.specs.Letters.{chain_from, ends_well, words_from, right_length, right_header}
 use Rattle.sound.specs.Blocks.{chains}
 use Rattle.sound.proofs.Tests.{and_assoc, and_yes, and_cross, all_append}
-use Rattle.visits.specs.declared.Walk.{Walk}
 use Rattle.visits.specs.declared.Asks.{Asks}
-use Rattle.visits.specs.declared.Walk.TheVariants.{Ended, Bad}
 use Rattle.visits.specs.Marks.{fresh, marked, ends_within, clean, Visited}
 use Rattle.visits.specs.Letters.{is_on, is_asked, meets, letter_right, letters_right, Judged}
 use Rattle.visits.proofs.Walks.{fresh-append, marked_append}
 
 -- ---- the header
 module _ (t : List ℕ) (task node : ℕ) where
-  pub on_no : seat_of t task ≡ Unbound → false ≡ is_on t task node
+  pub on_no : seat_of t task ≡ None → false ≡ is_on t task node
   unfolding is_on
   on_no e = rw (told-unbound t task e)
 
-  pub on_at : (n q : ℕ) → seat_of t task ≡ At n q → eqb n node ≡ is_on t task node
+  pub on_at : (n q : ℕ) → seat_of t task ≡ Some (record { node = n; queue = q }) → eqb n node ≡ is_on t task node
   unfolding is_on
   on_at n q e = let w = told_at t task n q e in rw (w.0, w.1.0)
 
@@ -101,28 +100,28 @@ module _ (s : Settings) (l t : List ℕ) (asks : Asks) where
             → Judged (letters_right s l t asks marks (live (b ∷ []))) (marked marks (chains s l (live (b ∷ [])))) false new
         judged_no new e = record { is = sym (right_one ∙ e); marks = λ f. absurd (false≢true f) }
 
-        module _ (r : Walk) (new : List ℕ) (v : Visited s l s.m b marks r new) where
-          pub letter_bad : r ≡ Bad → Judged (letters_right s l t asks marks (live (b ∷ []))) (marked marks (chains s l (live (b ∷ [])))) false new
+        module _ (r : Option ℕ) (new : List ℕ) (v : Visited s l s.m b marks r new) where
+          pub letter_bad : r ≡ None → Judged (letters_right s l t asks marks (live (b ∷ []))) (marked marks (chains s l (live (b ∷ [])))) false new
           unfolding letter_right clean ends_within ends_well
           letter_bad e =
-              let c : clean s l s.m b marks ≡ false = told_no (clean s l s.m b marks) (Ended (s.m - length (chain_from s l b))) Bad r v.is (λ z. apart z) e in
+              let c : clean s l s.m b marks ≡ false = told_no (clean s l s.m b marks) (Some (s.m - length (chain_from s l b))) None r v.is (λ z. apart z) e in
               judged_no new (both (ends_well s l b) _ (fresh marks (chain_from s l b)) c)
             where
-              apart : {n : ℕ} → Ended n ≡ Bad → ⊥
+              apart : {n : ℕ} → Some n ≡ None → ⊥
               apart z = let y : ◌≡◌ {A = ℕ} 0 1 = cc in omega arith
 
               both : (a x f : Bool) → a && f ≡ false → (a && x) && f ≡ false
               both true x f e = rw e (and-false x)
               both false x f e = refl
 
-          module _ (left : ℕ) (e : r ≡ Ended left) where
+          module _ (left : ℕ) (e : r ≡ Some left) where
             known : (clean s l s.m b marks ≡ true) × (s.m - length (chain_from s l b) ≡ left)
             known =
-                let w = told_yes (clean s l s.m b marks) (Ended (s.m - length (chain_from s l b))) Bad r v.is (Ended left) (λ z. apart z) e in
+                let w = told_yes (clean s l s.m b marks) (Some (s.m - length (chain_from s l b))) None r v.is (Some left) (λ z. apart z) e in
                 let q = w.1 in
                 (w.0, cc)
               where
-                apart : Ended left ≡ Bad → ⊥
+                apart : Some left ≡ None → ⊥
                 apart z = let y : ◌≡◌ {A = ℕ} 0 1 = cc in omega arith
 
             pub its_ends : ends_well s l b ≡ true

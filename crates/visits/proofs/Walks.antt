@@ -1,8 +1,9 @@
 -- What each path of a visit decides, and marks of lists joined. Assumes nothing.
+use Rattle.std.specs.Prelude.{None, Option, Some}
 use mathlib.Core.Path.{◌≡◌, refl, sym, ap, ◌∙◌}
 use mathlib.Core.Bool.{Bool, true, false, ◌&&◌, false≢true}
 use mathlib.Core.List.{List, [], ◌∷◌, ◌++◌}
-use Prim.Native.Nat.{ℕ, zero, suc, ◌+◌, ◌-◌, ◌*◌, ◌≤◌, ◌<◌}
+use Prim.Native.Nat.{ℕ, ◌+◌, ◌-◌, ◌*◌, ◌≤◌, ◌<◌}
 use native.Mathlib.Nat.{mul-le-mul_right}
 use native.Mathlib.Omega.{arith}
 use lib.Dec.{eqb, leb}
@@ -18,9 +19,7 @@ use Rattle.letters.proofs.Steps.{link_from_lem}
 use Rattle.blocks.specs.Chain.{link, list, after}
 use Rattle.blocks.proofs.Steps.{list_step, list_none}
 use Rattle.sound.proofs.Tests.{and_assoc}
-use Rattle.visits.specs.declared.Walk.{Walk}
-use Rattle.visits.specs.declared.Walk.TheVariants.{Ended, Bad}
-use Rattle.visits.specs.Marks.{fresh, marked, ends_within, clean, Visited, Linked, told_by, Walked}
+use Rattle.visits.specs.Marks.{fresh, marked, ends_within, clean, Visited, Linked, Walked}
 
 -- ---- lists joined
 pub fresh-append : (marks l m : List ℕ) → fresh marks (l ++ m) ≡ fresh marks l && fresh (marked marks l) m
@@ -42,17 +41,17 @@ length_marked marks (x ∷ l) = length_marked (set marks x 1) l ∙ length-set m
 
 -- ---- the paths of a visit
 module _ (s : Settings) (l : List ℕ) (n b : ℕ) (marks : List ℕ) where
-  visited_bad : (new : List ℕ) → clean s l n b marks ≡ false → Visited s l n b marks Bad new
+  visited_bad : (new : List ℕ) → clean s l n b marks ≡ false → Visited s l n b marks None new
   visited_bad new e = record { is = rw e; marks = λ t. absurd (false≢true (sym e ∙ t)) }
 
-  pub visit_end : b ≡ 0 → Visited s l n b marks (Ended n) marks
+  pub visit_end : b ≡ 0 → Visited s l n b marks (Some n) marks
   unfolding clean ends_within all after fresh marked
   visit_end z =
       let e = list_none s l n b z in
       let c : clean s l n b marks ≡ true = rw (e, z) in
-      record { is = rw (c, e) (ap Ended (omega arith)); marks = λ t. rw e }
+      record { is = rw (c, e) (ap Some (omega arith)); marks = λ t. rw e }
 
-  pub visit_none : (new : List ℕ) → (b ≡ 0 → ⊥) → n ≡ 0 → Visited s l n b marks Bad new
+  pub visit_none : (new : List ℕ) → (b ≡ 0 → ⊥) → n ≡ 0 → Visited s l n b marks None new
   unfolding clean ends_within all after list
   visit_none new h z = visited_bad new (rw (z, ne_eqb b 0 h))
 
@@ -60,11 +59,11 @@ module _ (s : Settings) (l : List ℕ) (n b : ℕ) (marks : List ℕ) where
     step : list s l n b ≡ b ∷ list s l (n - 1) (link s l b)
     step = list_step s l n b (omega arith) h
 
-    pub visit_above : (new : List ℕ) → s.m < b → Visited s l n b marks Bad new
+    pub visit_above : (new : List ℕ) → s.m < b → Visited s l n b marks None new
     unfolding clean ends_within all
     visit_above new k = visited_bad new (rw (step, lt-leb b s.m k, and-false (leb 1 b)))
 
-    pub visit_marked : (new : List ℕ) → (get_or marks b 0 ≡ 0 → ⊥) → Visited s l n b marks Bad new
+    pub visit_marked : (new : List ℕ) → (get_or marks b 0 ≡ 0 → ⊥) → Visited s l n b marks None new
     unfolding clean fresh
     visit_marked new k = visited_bad new (rw (step, ne_eqb (get_or marks b 0) 0 k) (and-false (ends_within s l n b)))
 
@@ -73,7 +72,7 @@ module _ (s : Settings) (l : List ℕ) (n b : ℕ) (marks : List ℕ) where
       unfolding clean ends_within all after fresh
       clean_step = rw (step, le-leb 1 b (omega arith), le-leb b s.m k, z)
 
-      pub visit_step : (next : ℕ) (r : Walk) (new : List ℕ) → next ≡ link s l b → Visited s l (n - 1) next (set marks b 1) r new → Visited s l n b marks r new
+      pub visit_step : (next : ℕ) (r : Option ℕ) (new : List ℕ) → next ≡ link s l b → Visited s l (n - 1) next (set marks b 1) r new → Visited s l n b marks r new
       unfolding marked
       visit_step next r new e v =
           let w : Visited s l (n - 1) (link s l b) (set marks b 1) r new = rw e at v in
@@ -84,34 +83,19 @@ module _ (s : Settings) (l : List ℕ) (n b : ℕ) (marks : List ℕ) where
           }
 
 -- ---- a walk by numbers
-pub told_bad : (r : ℕ) → r ≡ 0 → told_by r ≡ Bad
-unfolding told_by
-told_bad r e = rw e
-
-pub told_ended : (r : ℕ) → (r ≡ 0 → ⊥) → told_by r ≡ Ended (r - 1)
-unfolding told_by
-told_ended zero g = absurd (g refl)
-told_ended (suc k) g = ap Ended (omega arith)
-
 module _ (words : List ℕ) (before width m n b : ℕ) (marks : List ℕ) where
-  pub walk_end : b ≡ 0 → Walked words before width m n b marks (n + 1) marks
-  walk_end z = λ s st eb ew em. rw (told_ended (n + 1) (λ y. omega arith)) (rw (ended) (visit_end s words n b marks z))
-    where
-      ended : n + 1 - 1 ≡ n
-      ended = omega arith
+  pub walk_end : b ≡ 0 → Walked words before width m n b marks (Some n) marks
+  walk_end z = λ s st eb ew em. visit_end s words n b marks z
 
   module _ (some : b ≡ 0 → ⊥) where
-    pub walk_none : n ≡ 0 → Walked words before width m n b marks 0 marks
-    unfolding told_by
+    pub walk_none : n ≡ 0 → Walked words before width m n b marks None marks
     walk_none z = λ s st eb ew em. visit_none s words n b marks marks some z
 
     module _ (h : n ≡ 0 → ⊥) where
-      pub walk_above : m < b → Walked words before width m n b marks 0 marks
-      unfolding told_by
+      pub walk_above : m < b → Walked words before width m n b marks None marks
       walk_above k = λ s st eb ew em. visit_above s words n b marks some h marks (omega arith)
 
-      pub walk_marked : (get_or marks b 0 ≡ 0 → ⊥) → Walked words before width m n b marks 0 marks
-      unfolding told_by
+      pub walk_marked : (get_or marks b 0 ≡ 0 → ⊥) → Walked words before width m n b marks None marks
       walk_marked k = λ s st eb ew em. visit_marked s words n b marks some h marks k
 
       module _ (k : b ≤ m) (z : get_or marks b 0 ≡ 0) where
@@ -122,9 +106,9 @@ module _ (words : List ℕ) (before width m n b : ℕ) (marks : List ℕ) where
             let f : before + b * width ≡ link_at s b = rw (eb, ew) (ap (λ (k : ℕ). block_at s 1 - 1 + b * k) (sym e) ∙ link_from_lem s st.range b (omega arith)) in
             ap (λ (i : ℕ). get_or words i 0) f
 
-        pub walk_next : (r : ℕ) (left : List ℕ) → Walked words before width m (n - 1) (get_or words (before + b * width) 0) (set marks b 1) r left → Walked words before width m n b marks r left
+        pub walk_next : (r : Option ℕ) (left : List ℕ) → Walked words before width m (n - 1) (get_or words (before + b * width) 0) (set marks b 1) r left → Walked words before width m n b marks r left
         walk_next r left v = λ s st eb ew em.
-            visit_step s words n b marks some h (omega arith) z (get_or words (before + b * width) 0) (told_by r) left (goes s st eb ew) (v s st eb ew em)
+            visit_step s words n b marks some h (omega arith) z (get_or words (before + b * width) 0) r left (goes s st eb ew) (v s st eb ew em)
 
   pub link_fits : Linked words before width m → b ≤ m → (before + b * width < length words) × (before + b * width ≤ 85274)
   link_fits g h =
@@ -147,5 +131,5 @@ module _ (s : Settings) (l : List ℕ) (st : Stretch s l) (before : ℕ) (e : be
       let small = node-small s r in
       record { inside = omega arith; small = omega arith; few = r.m.high }
 
-  pub visited_as : (n b : ℕ) (old : List ℕ) (r : ℕ) (new : List ℕ) (w : Walk) → told_by r ≡ w → Walked l before s.b s.m n b old r new → Visited s l n b old w new
-  visited_as n b old r new w q v = rw q at (v s st e refl refl)
+  pub visited_as : (n b : ℕ) (old : List ℕ) (r : Option ℕ) (new : List ℕ) → Walked l before s.b s.m n b old r new → Visited s l n b old r new
+  visited_as n b old r new v = v s st e refl refl

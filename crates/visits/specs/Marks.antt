@@ -1,12 +1,10 @@
 -- Marks: a row of bytes that shows which blocks were visited, and what a visit of a chain answers.
-use Rattle.std.specs.Prelude.{◌≡◌, Bool, true, ◌&&◌, cond, List, [], ◌∷◌, ℕ, zero, suc, ◌+◌, ◌-◌, ◌*◌, ◌≤◌, ◌<◌, eqb, leb, length, get_or, set}
+use Rattle.std.specs.Prelude.{◌≡◌, Bool, true, ◌&&◌, cond, List, [], ◌∷◌, ℕ, ◌+◌, ◌-◌, ◌*◌, ◌≤◌, ◌<◌, eqb, leb, length, get_or, set, None, Option, Some}
 use Rattle.words.specs.Words.{all}
 use Rattle.settings.specs.declared.Settings.{Settings}
 use Rattle.layout.specs.Places.{block_at}
 use Rattle.layout.specs.Asked.{Stretch}
 use Rattle.blocks.specs.Chain.{list, after}
-use Rattle.visits.specs.declared.Walk.{Walk}
-use Rattle.visits.specs.declared.Walk.TheVariants.{Ended, Bad}
 
 -- none of the blocks has a mark, each marked before the next is looked at
 unfoldable pub fresh : List ℕ → List ℕ → Bool
@@ -29,8 +27,8 @@ module _ (s : Settings) (stretch : List ℕ) (n b : ℕ) where
   clean marks = ends_within && fresh marks (list s stretch n b)
 
 -- what a visit answers: of the n blocks at most, how many were not there; it marks those that were
-pub record Visited (s : Settings) (stretch : List ℕ) (n b : ℕ) (old : List ℕ) (r : Walk) (new : List ℕ) : Type 0 where
-  pub is : r ≡ cond (clean s stretch n b old) (Ended (n - length (list s stretch n b))) Bad
+pub record Visited (s : Settings) (stretch : List ℕ) (n b : ℕ) (old : List ℕ) (r : Option ℕ) (new : List ℕ) : Type 0 where
+  pub is : r ≡ cond (clean s stretch n b old) (Some (n - length (list s stretch n b))) None
   pub marks : clean s stretch n b old ≡ true → new ≡ marked old (list s stretch n b)
 
 -- ---- the same in numbers: the link of block b is word before + b * width, for the blocks 1 to m
@@ -39,12 +37,7 @@ pub record Linked (words : List ℕ) (before width m : ℕ) : Type 0 where
   pub small : before + m * width ≤ 85274
   pub few : m ≤ 1024
 
--- what a visit answers, by a number: 0 for a bad chain, else one more than how many blocks were not there
-unfoldable pub told_by : ℕ → Walk
-told_by zero = Bad
-told_by (suc n) = Ended n
-
 -- a walk by such numbers is a visit in each stretch that they are of
-abbrev pub Walked : List ℕ → ℕ → ℕ → ℕ → ℕ → ℕ → List ℕ → ℕ → List ℕ → Type 0
+abbrev pub Walked : List ℕ → ℕ → ℕ → ℕ → ℕ → ℕ → List ℕ → Option ℕ → List ℕ → Type 0
 Walked words before width m n b old r new =
-    (s : Settings) → Stretch s words → before ≡ block_at s 1 - 1 → width ≡ s.b → m ≡ s.m → Visited s words n b old (told_by r) new
+    (s : Settings) → Stretch s words → before ≡ block_at s 1 - 1 → width ≡ s.b → m ≡ s.m → Visited s words n b old r new

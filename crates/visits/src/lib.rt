@@ -19,25 +19,17 @@ ghost use Rattle.visits.specs.Letters.{
 };
 
 use settings::Settings;
-use tasks::Seat;
-
-// What a visit answers: how many blocks of the node it did not come to, or that the chain is bad.
-#[derive(Clone, Copy)]
-pub enum Walk {
-    Ended(usize),
-    Bad,
-}
 
 // What a place asks of the header of a letter that stands there: nothing, the nodes that it goes between, or the task that it goes to.
-#[derive(Clone, Copy)]
+#[derive(Clone, Copy, Debug, PartialEq, Eq)]
 pub enum Asks {
     Any,
     Between(u32, u32),
     To(u32),
 }
 
-// Follows the chain from b on, `owed` blocks at most, and marks each: one more than how many were not there, or 0 where the chain is bad,
-// for a block is none or has a mark, or the chain does not end. The link of block b is word `before + b * width`.
+// Follows the chain from b on, `owed` blocks at most, and marks each: how many were not there, or none where the chain is bad, for a block
+// is none or has a mark, or the chain does not end. The link of block b is word `before + b * width`.
 fn visit_on(
     node: &&[u32],
     marks: &mut [u8; 1025],
@@ -46,40 +38,36 @@ fn visit_on(
     m: usize,
     b: u32,
     owed: usize,
-) -> usize
+) -> Option<usize>
     requires linked { Linked node.now.now before width m }
     requires owed_le_m { owed ≤ m }
     ensures { Walked node.now.now before width m owed b marks.old result marks.new }
 {
     if b == 0 {
-        return owed + 1;
+        return Some(owed);
     }
     if owed == 0 {
-        return 0;
+        return None;
     }
     let at = b as usize;
     if m < at {
-        return 0;
+        return None;
     }
     if marks[at] != 0 {
-        return 0;
+        return None;
     }
     marks[at] = 1;
     let next = node[before + at * width];
     visit_on(node, marks, before, width, m, next, owed - 1)
 }
 
-// Follows the chain that block b begins, and marks each block.
-pub fn visit(node: &[u32], s: Settings, marks: &mut [u8; 1025], b: u32) -> Walk
+// Follows the chain that block b begins, and marks each block: how many blocks of the node it did not come to, or none where the chain is bad.
+pub fn visit(node: &[u32], s: Settings, marks: &mut [u8; 1025], b: u32) -> Option<usize>
     requires { Stretch s node.now }
     ensures { Visited s node.now s.m b marks.old result marks.new }
 {
     let before = layout::block_at(s, 1) - 1;
-    let left = visit_on(&node, marks, before, s.b, s.m, b, s.m);
-    if left == 0 {
-        return Walk::Bad;
-    }
-    Walk::Ended(left - 1)
+    visit_on(&node, marks, before, s.b, s.m, b, s.m)
 }
 
 // Whether the letter that block b begins has a valid length and the blocks it needs; it has `count`. A chain that carries fewer words than a
@@ -106,11 +94,10 @@ fn is_on(table: &[u32], task: u32, node: u32) -> bool
     requires { length table.now ≡ table_words }
     ensures { result ≡ is_on table.now task node }
 {
-    let seat = tasks::seat_of(table, task);
-    let Seat::At(own, _) = seat else {
+    let Some(seat) = tasks::seat_of(table, task) else {
         return false;
     };
-    own == node
+    seat.node == node
 }
 
 // Whether a header is what the place asks for: its source node, its destination task and its destination node.
@@ -163,7 +150,7 @@ pub fn is_right_letter(
     if b == 0 {
         return true;
     }
-    let Walk::Ended(left) = visit(node, s, marks, b) else {
+    let Some(left) = visit(node, s, marks, b) else {
         return false;
     };
     if !is_right_length(node, s, b, s.m - left) {

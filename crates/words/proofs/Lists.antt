@@ -8,6 +8,7 @@ use native.Mathlib.Omega.{arith}
 use lib.Dec.{eqb, leb}
 use lib.ListN.{length, get_or}
 use borrow.Author.Tests.{eqb-true, eqb-false, eq-eqb, ne_eqb, leb-true, leb-false}
+use Rattle.std.specs.Prelude.{Option, Some, None, Result, Ok}
 use Rattle.words.specs.Words.{every, all, alike}
 
 -- a case split on a test that keeps the equation
@@ -123,3 +124,20 @@ module _ {ℓ} {A : Type ℓ} (b : Bool) (x y r : A) (e : r ≡ cond b x y) wher
 
   pub told_yes : (z : A) → (z ≡ y → ⊥) → r ≡ z → (b ≡ true) × (x ≡ z)
   told_yes z n f = split b (λ t. (t, sym (rw t at e) ∙ f)) (λ t. absurd (n (sym f ∙ (rw t at e))))
+
+-- a case split on an option that keeps the equation
+pub option? {ℓ} : {A : Type 0} {P : Type ℓ} (x : Option A) → ((y : A) → x ≡ Some y → P) → (x ≡ None → P) → P
+option? (Some y) f g = f y refl
+option? None f g = g refl
+
+-- ---- the same of an answer that is there where the test says yes, and none where it says no
+module _ {A : Type 0} (b : Bool) (x : A) (r : Option A) (e : r ≡ cond b (Some x) None) where
+  pub told_none : r ≡ None → b ≡ false
+  told_none f = told_no b (Some x) None r e (λ q. cc) f
+
+  pub told_some : (y : A) → r ≡ Some y → (b ≡ true) × (x ≡ y)
+  told_some y f = let h = told_yes b (Some x) None r e (Some y) (λ q. cc) f in (h.0, cc)
+
+-- two calls that were done alike answer the same
+pub same_ok : {T E : Type 0} {x y : T} → ◌≡◌ {A = Result T E} (Ok x) (Ok y) → x ≡ y
+same_ok e = cc

@@ -5,33 +5,18 @@ use Rattle.carrying.proofs.Asks.{from_all, from_next}
 use Rattle.carrying.proofs.Ways.{nodes_none, nodes-stop, nodes_go}
 use Rattle.carrying.proofs.carry_from.Goals as goal
 
-pub loop-other-init : goal.loop-other-init
-loop-other-init c = (refl, c.requires, refl)
-
-pub letters_for-k-requires : goal.letters_for-k-requires
-letters_for-k-requires c = record { sound_at = c.loop-other.invariant.1.stands; i_lt_nodes = omega arith }
-
 pub carry_all-a-requires : goal.carry_all-a-requires
 carry_all-a-requires c =
     let x = c.args in
     let l = c.loop-other in
-    from_all x.s l.memory x.j l.other l.a l.invariant.1 (omega arith) c.letters_for-k.ensures
-
-pub shape_of-memory-in_default : goal.shape_of-memory-in_default
-shape_of-memory-in_default c = c.carry_all-a.auto.memory ∙ c.loop-other.invariant.0
+    from_all x.s l.memory x.j l.other l.a l.invariant.0 (omega arith) c.letters_for-k.ensures
 
 pub returns-in_default : goal.returns-in_default
 returns-in_default c =
     let x = c.args in
     let l = c.loop-other in
     nodes-stop x.s x.j l.memory l.other l.a (omega arith) c.letters_for-k.ensures c.carry_all-a.ensures c.in_default.is
-    ∙ l.invariant.2
-
-pub overflow_add-other : goal.overflow_add-other
-overflow_add-other c = omega arith
-
-pub loop-other-smaller : goal.loop-other-smaller
-loop-other-smaller c = omega arith
+    ∙ l.invariant.1
 
 pub loop-other-preserved : goal.loop-other-preserved
 loop-other-preserved c =
@@ -40,16 +25,12 @@ loop-other-preserved c =
     let k = c.letters_for-k.ensures in
     let e = c.carry_all-a.ensures in
     let d = c.in-Done.is in (
-      c.carry_all-a.auto.memory ∙ l.invariant.0,
-      from_next x.s l.memory x.j l.other l.a l.invariant.1 (omega arith) k e d,
-      nodes_go x.s x.j l.memory l.other l.a (omega arith) k e d refl ∙ l.invariant.2,
+      from_next x.s l.memory x.j l.other l.a l.invariant.0 (omega arith) k e d,
+      nodes_go x.s x.j l.memory l.other l.a (omega arith) k e d refl ∙ l.invariant.1,
     )
-
-pub shape_of-memory : goal.shape_of-memory
-shape_of-memory c = c.loop-other.invariant.0
 
 pub returns : goal.returns
 returns c =
     let x = c.args in
     let l = c.loop-other in
-    nodes_none x.s x.j l.memory l.other l.a (omega arith) ∙ l.invariant.2
+    nodes_none x.s x.j l.memory l.other l.a (omega arith) ∙ l.invariant.1

@@ -5,23 +5,11 @@ use Rattle.carrying.proofs.Asks.{backs_all, backs_next}
 use Rattle.carrying.proofs.Ways.{backs_none, backs_go}
 use Rattle.carrying.proofs.collect_from.Goals as goal
 
-pub loop-other-init : goal.loop-other-init
-loop-other-init c = (refl, c.requires, refl)
-
-pub acks_for-k-requires : goal.acks_for-k-requires
-acks_for-k-requires c = record { sound_at = c.loop-other.invariant.1.stands; i_lt_nodes = omega arith }
-
 pub collect_all-a-requires : goal.collect_all-a-requires
 collect_all-a-requires c =
     let x = c.args in
     let l = c.loop-other in
-    backs_all x.s l.memory x.j l.other l.a l.invariant.1 (omega arith) c.acks_for-k.ensures
-
-pub overflow_add-other : goal.overflow_add-other
-overflow_add-other c = omega arith
-
-pub loop-other-smaller : goal.loop-other-smaller
-loop-other-smaller c = omega arith
+    backs_all x.s l.memory x.j l.other l.a l.invariant.0 (omega arith) c.acks_for-k.ensures
 
 pub loop-other-preserved : goal.loop-other-preserved
 loop-other-preserved c =
@@ -29,16 +17,12 @@ loop-other-preserved c =
     let l = c.loop-other in
     let k = c.acks_for-k.ensures in
     let e = c.collect_all-a.ensures in (
-      c.collect_all-a.auto.memory ∙ l.invariant.0,
-      backs_next x.s l.memory x.j l.other l.a l.invariant.1 (omega arith) k e,
-      backs_go x.s x.j l.memory l.other l.a (omega arith) k e refl ∙ l.invariant.2,
+      backs_next x.s l.memory x.j l.other l.a l.invariant.0 (omega arith) k e,
+      backs_go x.s x.j l.memory l.other l.a (omega arith) k e refl ∙ l.invariant.1,
     )
-
-pub shape_of-memory : goal.shape_of-memory
-shape_of-memory c = c.loop-other.invariant.0
 
 pub returns : goal.returns
 returns c =
     let x = c.args in
     let l = c.loop-other in
-    backs_none x.s x.j l.memory l.other l.a (omega arith) ∙ l.invariant.2
+    backs_none x.s x.j l.memory l.other l.a (omega arith) ∙ l.invariant.1

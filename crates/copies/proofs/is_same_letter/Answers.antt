@@ -21,10 +21,10 @@ pub overflow_sub-s : goal.overflow_sub-s
 overflow_sub-s c = let r = c.requires.readable.stretch.range.b.low in omega arith
 
 pub is_same_block-requires : goal.is_same_block-requires
-is_same_block-requires c = let x = c.args in let k = compare_blocks x.s x.a.now x.b x.c.now x.d c.loop-left.left c.loop-left.x c.loop-left.y c.loop-left.invariant (omega arith) in record { block = k.0; block_2 = k.1; n_bound = omega (arith, c.fewer-n.ensures) }
+is_same_block-requires c = let x = c.args in let k = compare_blocks x.s x.a.now x.b x.c.now x.d c.loop-left.left c.loop-left.x c.loop-left.y c.loop-left.invariant (omega arith) in record { block = k.0; block_2 = k.1; n_bound = omega (arith, c.min-n.ensures) }
 
 pub returns-then-not-is_same_block : goal.returns-then-not-is_same_block
-returns-then-not-is_same_block c = let x = c.args in compare_differs x.s x.a.now x.b x.c.now x.d c.loop-left.left c.loop-left.x c.loop-left.y c.loop-left.invariant (omega arith) _ c.fewer-n.ensures _ c.is_same_block.ensures (c.if-not-is_same_block.true)
+returns-then-not-is_same_block c = let x = c.args in compare_differs x.s x.a.now x.b x.c.now x.d c.loop-left.left c.loop-left.x c.loop-left.y c.loop-left.invariant (omega arith) _ c.min-n.ensures _ c.is_same_block.ensures (c.if-not-is_same_block.true)
 
 pub link_of-x-requires : goal.link_of-x-requires
 link_of-x-requires c = let x = c.args in (compare_blocks x.s x.a.now x.b x.c.now x.d c.loop-left.left c.loop-left.x c.loop-left.y c.loop-left.invariant (omega arith)).0
@@ -33,13 +33,13 @@ pub link_of-y-requires : goal.link_of-y-requires
 link_of-y-requires c = let x = c.args in (compare_blocks x.s x.a.now x.b x.c.now x.d c.loop-left.left c.loop-left.x c.loop-left.y c.loop-left.invariant (omega arith)).1
 
 pub overflow_sub-left : goal.overflow_sub-left
-overflow_sub-left c = omega (arith, c.fewer-n.ensures)
+overflow_sub-left c = omega (arith, c.min-n.ensures)
 
 pub loop-left-smaller : goal.loop-left-smaller
-loop-left-smaller c = let r = c.requires.readable.stretch.range.b.low in omega (arith, c.fewer-n.ensures)
+loop-left-smaller c = let r = c.requires.readable.stretch.range.b.low in omega (arith, c.min-n.ensures)
 
 pub loop-left-preserved : goal.loop-left-preserved
-loop-left-preserved c = let x = c.args in compare_goes x.s x.a.now x.b x.c.now x.d c.loop-left.left c.loop-left.x c.loop-left.y c.loop-left.invariant (omega arith) _ c.fewer-n.ensures _ c.is_same_block.ensures (c.if-not-is_same_block.false) _ _ c.link_of-x.ensures c.link_of-y.ensures
+loop-left-preserved c = let x = c.args in compare_goes x.s x.a.now x.b x.c.now x.d c.loop-left.left c.loop-left.x c.loop-left.y c.loop-left.invariant (omega arith) _ c.min-n.ensures _ c.is_same_block.ensures (c.if-not-is_same_block.false) _ _ c.link_of-x.ensures c.link_of-y.ensures
 
 pub returns : goal.returns
 returns c = let x = c.args in compare_ends x.s x.a.now x.b x.c.now x.d c.loop-left.left c.loop-left.x c.loop-left.y c.loop-left.invariant (omega arith)

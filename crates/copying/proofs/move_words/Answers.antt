@@ -1,25 +1,19 @@
--- `copying::move_words` meets its contract: after k turns the first k words stand. Assumes nothing.
-use mathlib.Core.Path.{refl, ◌∙◌}
+-- `copying::move_words` meets its contract: the words copied, pasted at one go, are those stored one by one. Assumes nothing.
+use mathlib.Core.Path.{sym, ap, ◌∙◌}
+use mathlib.Core.List.{◌++◌}
+use Prim.Native.Nat.{ℕ, ◌+◌}
 use native.Mathlib.Omega.{arith}
-use lib.ListN.{length-set}
-use Rattle.copying.proofs.Moving.{moved_more, moved_all}
+use lib.ListN.{take, drop}
+use Rattle.std.proofs.lemmas.List.Edits.{sets-eq}
+use Rattle.words.specs.Words.{part}
+use Rattle.words.proofs.Parts.{length_part}
 use Rattle.copying.proofs.move_words.Goals as goal
-
-pub loop-k-init : goal.loop-k-init
-loop-k-init c = (omega arith, refl, refl)
-
-pub loop-k-preserved : goal.loop-k-preserved
-loop-k-preserved c =
-    let l = c.loop-k in (
-      omega arith,
-      length-set l.memory _ _ ∙ l.invariant.1,
-      moved_more c.args.memory.now c.args.from c.args.to c.args.n c.requires l.k l.memory (omega arith) l.invariant.2,
-    )
-
-pub shape_of-memory : goal.shape_of-memory
-shape_of-memory c = c.loop-k.invariant.1
 
 pub returns : goal.returns
 returns c =
-    let l = c.loop-k in
-    moved_all c.args.memory.now c.args.from c.args.to c.args.n c.requires l.k l.memory (omega arith) l.invariant.2
+    let x = c.args in
+    let m = x.memory.now in
+    let p = part m x.from (x.from + x.n) in
+    let z = length_part m x.from (x.from + x.n) (omega arith) c.requires.reads in
+    c.copy_within.ensures.after
+    ∙ sym (sets-eq p m x.to (omega (arith, z, c.requires.writes)) ∙ ap (λ (k : ℕ). take x.to m ++ p ++ drop (x.to + k) m) z)

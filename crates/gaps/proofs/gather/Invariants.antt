@@ -2,11 +2,8 @@
 use Rattle.gaps.specs.Row.{Row}
 use Rattle.queues.specs.Items.{live}
 use Rattle.queues.specs.Queue.{run}
-use Prim.Native.Nat.{◌-◌, ◌≤◌}
+use Prim.Native.Nat.{◌≤◌}
 use Rattle.gaps.proofs.gather.Given as goal
 
 abbrev pub invariant-loop-i : goal.invariant-loop-i
-invariant-loop-i l = (l.i ≤ l.items) × (l.n ≤ l.i) × Row (live (run l.k l.node l.q 0 l.i)) l.row l.n
-
-abbrev pub decreases-loop-i : goal.decreases-loop-i
-decreases-loop-i l = l.items - l.i
+invariant-loop-i l = (l.n ≤ l.i) × Row (live (run l.k l.node l.q 0 l.i)) l.row l.n

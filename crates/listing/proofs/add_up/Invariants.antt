@@ -1,11 +1,7 @@
--- `listing::add_up` meets its contract: after each turn the tasks below t have their ranks. Assumes nothing.
-use Prim.Native.Nat.{◌-◌}
+-- `listing::add_up` meets its contract: after each turn the tasks below the rank's index have their ranks. Assumes nothing.
 use Rattle.listing.specs.Asked.{numbers}
 use Rattle.listing.proofs.Adding.{Adding}
 use Rattle.listing.proofs.add_up.Given as goal
 
-abbrev pub invariant-loop-t : goal.invariant-loop-t
-invariant-loop-t l = Adding (numbers l.initial.ranks) l.initial.ranks l.ranks l.n l.t
-
-abbrev pub decreases-loop-t : goal.decreases-loop-t
-decreases-loop-t l = 256 - l.t
+abbrev pub invariant-loop-rank : goal.invariant-loop-rank
+invariant-loop-rank l = Adding (numbers l.initial.ranks) l.initial.ranks l.ranks l.n l.rank-index

@@ -4,11 +4,13 @@ use Prim.Native.Nat.{◌-◌, ◌≤◌}
 use Rattle.layout.specs.Places.{send_at, node}
 use Rattle.queues.specs.Queue.{send_kind, run}
 use Rattle.listing.specs.Asked.{placed, sent_from}
+use Rattle.listing.proofs.Given.{Read}
 use Rattle.listing.proofs.Placing.{rows}
 use Rattle.listing.proofs.list_send_queue.Given as goal
 
 abbrev pub invariant-loop-c : goal.invariant-loop-c
-invariant-loop-c l = (l.first ≤ l.c) × (l.c - l.first ≤ l.count - l.first) × (rows l.ranks l.out ≡ placed (sent_from l.s l.memory l.j (run (send_kind l.s) (node l.s l.memory l.j) (send_at l.s l.i) l.first (l.c - l.first))) (rows l.initial.ranks l.initial.out))
-
-abbrev pub decreases-loop-c : goal.decreases-loop-c
-decreases-loop-c l = l.count - l.c
+invariant-loop-c l = record {
+  within : l.c - l.first ≤ l.count - l.first;
+  read : Read l.s l.memory l.j (send_kind l.s) (send_at l.s l.i) l.k l.at l.count;
+  laid : rows l.ranks l.out ≡ placed (sent_from l.s l.memory l.j (run (send_kind l.s) (node l.s l.memory l.j) (send_at l.s l.i) l.first (l.c - l.first))) (rows l.initial.ranks l.initial.out);
+}

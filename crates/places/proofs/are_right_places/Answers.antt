@@ -1,15 +1,33 @@
 -- `places::are_right_places` meets its contract. Assumes nothing.
-use Rattle.places.proofs.Ranges.{hand_no, sends_no, acks_no, tasks_last}
+use native.Mathlib.Omega.{arith}
+use Rattle.places.proofs.Seen.{seen_none, seen_all, seen_bad, seen_next, range-hand}
+use Rattle.places.proofs.Begun.{place_is, judged_at}
 use Rattle.places.proofs.are_right_places.Goals as goal
 
 pub returns-then-not-is_right_hand : goal.returns-then-not-is_right_hand
-returns-then-not-is_right_hand c = let x = c.args in hand_no x.s x.memory.now x.i x.marks.now _ _ c.is_right_hand.ensures (c.if-not-is_right_hand.true)
+returns-then-not-is_right_hand c = seen_bad _ _ _ _ _ 0 (seen_none _ _ _ _) _ _ (range-hand _ _ _ _ _ _ c.is_right_hand.ensures) (omega arith) c.if-not-is_right_hand.true
 
-pub returns-then-not-are_right_sends : goal.returns-then-not-are_right_sends
-returns-then-not-are_right_sends c = let x = c.args in sends_no x.s x.memory.now x.i x.marks.now _ _ c.is_right_hand.ensures (c.if-not-is_right_hand.false) _ _ c.are_right_sends.ensures (c.if-not-are_right_sends.true)
+pub loop-p-init : goal.loop-p-init
+loop-p-init c = seen_next _ _ _ _ _ 0 (seen_none _ _ _ _) _ _ (range-hand _ _ _ _ _ _ c.is_right_hand.ensures) c.if-not-is_right_hand.false
 
-pub returns-then-not-are_right_acks : goal.returns-then-not-are_right_acks
-returns-then-not-are_right_acks c = let x = c.args in acks_no x.s x.memory.now x.i x.marks.now _ _ c.is_right_hand.ensures (c.if-not-is_right_hand.false) _ _ c.are_right_sends.ensures (c.if-not-are_right_sends.false) _ _ c.are_right_acks.ensures (c.if-not-are_right_acks.true)
+pub are_right_letters-requires-clause-stands : goal.are_right_letters-requires-clause-stands
+are_right_letters-requires-clause-stands c =
+    let e = c.place_at-place.ensures in
+    (place_is _ _ _ c.requires.looked c.requires.small c.loop-p.p _ c.requires.seats (omega arith) (omega arith) _ e.sends e.acks e.tasks).stands
+
+pub returns-then-not-are_right_letters : goal.returns-then-not-are_right_letters
+returns-then-not-are_right_letters c =
+    let e = c.place_at-place.ensures in
+    seen_bad _ _ _ _ _ _ c.loop-p.invariant _ _
+    (judged_at _ _ _ _ _ (place_is _ _ _ c.requires.looked c.requires.small c.loop-p.p _ c.requires.seats (omega arith) (omega arith) _ e.sends e.acks e.tasks) _ _ _ c.are_right_letters.ensures)
+    (omega arith) c.if-not-are_right_letters.true
+
+pub loop-p-preserved : goal.loop-p-preserved
+loop-p-preserved c =
+    let e = c.place_at-place.ensures in
+    seen_next _ _ _ _ _ _ c.loop-p.invariant _ _
+    (judged_at _ _ _ _ _ (place_is _ _ _ c.requires.looked c.requires.small c.loop-p.p _ c.requires.seats (omega arith) (omega arith) _ e.sends e.acks e.tasks) _ _ _ c.are_right_letters.ensures)
+    c.if-not-are_right_letters.false
 
 pub returns : goal.returns
-returns c = let x = c.args in tasks_last x.s x.memory.now x.i x.marks.now _ _ c.is_right_hand.ensures (c.if-not-is_right_hand.false) _ _ c.are_right_sends.ensures (c.if-not-are_right_sends.false) _ _ c.are_right_acks.ensures (c.if-not-are_right_acks.false) _ _ c.are_right_tasks.ensures
+returns c = seen_all _ _ _ _ _ _ c.loop-p.invariant (omega arith)

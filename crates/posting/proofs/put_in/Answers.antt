@@ -12,10 +12,10 @@ pub returns-in_default : goal.returns-in_default
 returns-in_default c = absurd (never_short c.args.s c.args.node.now c.args.goal (letter_of c.args.header c.args.body.now) (rw (made_long c.args.header c.args.body.now) c.requires) (rw (c.needs_of-n.ensures ∙ needs_made c.args.header c.args.body.now c.args.s) at (sym c.take.ensures.answer ∙ c.in_default.is)))
 
 pub write-requires : goal.write-requires
-write-requires c = rw (made_long c.args.header c.args.body.now) at (put-lies c.args.s c.args.node.now c.args.goal (letter_of c.args.header c.args.body.now) (rw (made_long c.args.header c.args.body.now) c.requires) _ _ (rw (c.needs_of-n.ensures ∙ needs_made c.args.header c.args.body.now c.args.s) at (sym c.take.ensures.answer ∙ c.in-First.is)) (rw (c.needs_of-n.ensures ∙ needs_made c.args.header c.args.body.now c.args.s) at c.take.ensures.stored))
+write-requires c = rw (made_long c.args.header c.args.body.now) at (put-lies c.args.s c.args.node.now c.args.goal (letter_of c.args.header c.args.body.now) (rw (made_long c.args.header c.args.body.now) c.requires) _ _ (rw (c.needs_of-n.ensures ∙ needs_made c.args.header c.args.body.now c.args.s) at (sym c.take.ensures.answer ∙ c.in-Some.is)) (rw (c.needs_of-n.ensures ∙ needs_made c.args.header c.args.body.now c.args.s) at c.take.ensures.stored))
 
 pub append_to-requires : goal.append_to-requires
-append_to-requires c = put-aims c.args.s c.args.node.now c.args.goal (letter_of c.args.header c.args.body.now) (rw (made_long c.args.header c.args.body.now) c.requires) _ _ (rw (c.needs_of-n.ensures ∙ needs_made c.args.header c.args.body.now c.args.s) at (sym c.take.ensures.answer ∙ c.in-First.is)) (rw (c.needs_of-n.ensures ∙ needs_made c.args.header c.args.body.now c.args.s) at c.take.ensures.stored) _ c.write.ensures
+append_to-requires c = put-aims c.args.s c.args.node.now c.args.goal (letter_of c.args.header c.args.body.now) (rw (made_long c.args.header c.args.body.now) c.requires) _ _ (rw (c.needs_of-n.ensures ∙ needs_made c.args.header c.args.body.now c.args.s) at (sym c.take.ensures.answer ∙ c.in-Some.is)) (rw (c.needs_of-n.ensures ∙ needs_made c.args.header c.args.body.now c.args.s) at c.take.ensures.stored) _ c.write.ensures
 
 pub returns : goal.returns
-returns c = put_is c.args.s c.args.node.now c.args.goal (letter_of c.args.header c.args.body.now) (rw (made_long c.args.header c.args.body.now) c.requires) _ _ (rw (c.needs_of-n.ensures ∙ needs_made c.args.header c.args.body.now c.args.s) at (sym c.take.ensures.answer ∙ c.in-First.is)) (rw (c.needs_of-n.ensures ∙ needs_made c.args.header c.args.body.now c.args.s) at c.take.ensures.stored) _ _ c.write.ensures c.append_to.ensures
+returns c = put_is c.args.s c.args.node.now c.args.goal (letter_of c.args.header c.args.body.now) (rw (made_long c.args.header c.args.body.now) c.requires) _ _ (rw (c.needs_of-n.ensures ∙ needs_made c.args.header c.args.body.now c.args.s) at (sym c.take.ensures.answer ∙ c.in-Some.is)) (rw (c.needs_of-n.ensures ∙ needs_made c.args.header c.args.body.now c.args.s) at c.take.ensures.stored) _ _ c.write.ensures c.append_to.ensures

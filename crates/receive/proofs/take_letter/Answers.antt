@@ -3,14 +3,14 @@ use Rattle.receive.proofs.Outcomes.{kept_findable, found-holds, found-took, vain
 use mathlib.Core.Path.{sym, ◌∙◌}
 use Rattle.receive.proofs.take_letter.Goals as goal
 
-pub find-found-requires : goal.find-found-requires
-find-found-requires c = kept_findable c.args.s c.args.node.now c.args.q c.args.source c.requires c.task_at-at.ensures.is
+pub find-requires : goal.find-requires
+find-requires c = kept_findable c.args.s c.args.node.now c.args.q c.args.source c.requires c.task_at-at.ensures.is
 
 pub take_at-requires : goal.take_at-requires
-take_at-requires c = found-holds c.args.s c.args.node.now c.args.q c.args.source c.requires c.task_at-at.ensures.is _ (sym c.find-found.ensures ∙ c.in-At.is)
+take_at-requires c = found-holds c.args.s c.args.node.now c.args.q c.args.source c.requires c.task_at-at.ensures.is _ (sym c.find.ensures ∙ c.in-Some.is)
 
-pub returns-in-At : goal.returns-in-At
-returns-in-At c = found-took c.args.s c.args.node.now c.args.q c.args.source c.requires c.task_at-at.ensures.is _ (sym c.find-found.ensures ∙ c.in-At.is) c.args.out.now c.take_at.ensures
+pub returns-in-Some : goal.returns-in-Some
+returns-in-Some c = found-took c.args.s c.args.node.now c.args.q c.args.source c.requires c.task_at-at.ensures.is _ (sym c.find.ensures ∙ c.in-Some.is) c.args.out.now c.take_at.ensures
 
-pub returns-in-Nothing : goal.returns-in-Nothing
-returns-in-Nothing c = vain_took c.args.s c.args.node.now c.args.q c.args.source c.requires c.task_at-at.ensures.is c.args.out.now (sym c.find-found.ensures ∙ c.in-Nothing.is) c.in_vain.ensures.answer c.in_vain.ensures.stored
+pub returns-in-None : goal.returns-in-None
+returns-in-None c = vain_took c.args.s c.args.node.now c.args.q c.args.source c.requires c.task_at-at.ensures.is c.args.out.now (sym c.find.ensures ∙ c.in-None.is) c.in_vain.ensures.answer c.in_vain.ensures.stored

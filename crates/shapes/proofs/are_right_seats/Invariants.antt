@@ -1,7 +1,6 @@
 -- `shapes::are_right_seats` meets its contract. Assumes nothing.
 use mathlib.Core.Path.{◌≡◌}
 use mathlib.Core.Bool.{true}
-use Prim.Native.Nat.{◌≤◌, ◌-◌}
 use lib.ListN.{get_or}
 use Rattle.words.specs.Words.{every}
 use Rattle.layout.specs.Places.{task_at}
@@ -11,7 +10,4 @@ use Rattle.shapes.specs.Shape.{right_seat}
 use Rattle.shapes.proofs.are_right_seats.Given as goal
 
 abbrev pub invariant-loop-q : goal.invariant-loop-q
-invariant-loop-q l = (l.q ≤ 64) × (every l.q (λ q. right_seat (task_kind l.s) l.node (task_at l.s q) l.s.m (get_or l.seats (seat_at l.i q) 0)) ≡ true)
-
-abbrev pub decreases-loop-q : goal.decreases-loop-q
-decreases-loop-q l = 64 - l.q
+invariant-loop-q l = every l.q (λ q. right_seat (task_kind l.s) l.node (task_at l.s q) l.s.m (get_or l.seats (seat_at l.i q) 0)) ≡ true

@@ -13,12 +13,12 @@ pub returns-then-k-end : goal.returns-then-k-end
 returns-then-k-end c =
     c.are_zero-then-k-end.ensures ∙ clear_round _ _ _ _ _ c.requires.first_value c.requires.count_value (omega arith)
 
-pub returns-then-not-are_zero : goal.returns-then-not-are_zero
-returns-then-not-are_zero c =
-    no_first _ _ (sym c.are_zero-2.ensures ∙ c.if-not-are_zero.true)
+pub returns-then-are_zero : goal.returns-then-are_zero
+returns-then-are_zero c =
+    yes_first _ _ _ (sym c.are_zero-2.ensures ∙ c.if-are_zero.true) c.are_zero-then-are_zero.ensures
     ∙ clear_straight _ _ _ _ _ c.requires.first_value c.requires.count_value (omega arith)
 
-pub returns : goal.returns
-returns c =
-    yes_first _ _ _ (sym c.are_zero-2.ensures ∙ c.if-not-are_zero.false) c.are_zero-3.ensures
+pub returns-else-are_zero : goal.returns-else-are_zero
+returns-else-are_zero c =
+    c.if-are_zero.false ∙ no_first _ _ (sym c.are_zero-2.ensures ∙ c.if-are_zero.false)
     ∙ clear_straight _ _ _ _ _ c.requires.first_value c.requires.count_value (omega arith)

@@ -19,5 +19,5 @@ returns-then-own c =
 pub are_within-requires : goal.are_within-requires
 are_within-requires c = shape_queue _ _ _ c.requires (sym c.is_in_shape.ensures ∙ c.if-not-is_in_shape.false)
 
-pub returns : goal.returns
-returns c = post_other _ _ _ _ _ (sym c.is_in_shape.ensures ∙ c.if-not-is_in_shape.false) c.if-own.false _ c.are_within.ensures
+pub returns-else-own : goal.returns-else-own
+returns-else-own c = post_other _ _ _ _ _ (sym c.is_in_shape.ensures ∙ c.if-not-is_in_shape.false) c.if-own.false _ c.are_within.ensures

@@ -1,11 +1,11 @@
 -- `shapes::is_right_seat` meets its contract. Assumes nothing.
 use mathlib.Core.Path.{sym, ap, ◌∙◌}
 use Prim.Native.Nat.{ℕ, ◌+◌}
-use native.Mathlib.Omega.{arith}
 use lib.Dec.{eqb}
 use lib.ListN.{get_or}
 use Rattle.sound.proofs.Shapes.{shape_queue}
 use Rattle.shapes.proofs.Steps.{seat_shape, seat_empty, seat-unbound, seat-gap, seat-high, seat-flag}
+use Rattle.shapes.proofs.is_right_seat.Goals.{then-task-eq0-via-then-task-eq0, then-task-eq0-via-else-task-eq0+then-item-eq0}
 use Rattle.shapes.proofs.is_right_seat.Goals as goal
 
 pub returns-then-not-is_in_shape : goal.returns-then-not-is_in_shape
@@ -18,32 +18,30 @@ pub returns-then-items_of-eq0 : goal.returns-then-items_of-eq0
 returns-then-items_of-eq0 c =
     seat_empty _ _ _ _ _ (sym c.is_in_shape.ensures ∙ c.if-not-is_in_shape.false) (sym c.items_of.ensures ∙ c.if-items_of-eq0.true)
 
+pub item-requires-clause-queue : goal.item-requires-clause-queue
+item-requires-clause-queue c = shape_queue _ _ _ c.requires.placed (sym c.is_in_shape.ensures ∙ c.if-not-is_in_shape.false)
+
 pub returns-then-task-eq0 : goal.returns-then-task-eq0
 returns-then-task-eq0 c =
-    seat-unbound _ _ _ _ _ (sym c.is_in_shape.ensures ∙ c.if-not-is_in_shape.false) (λ z. c.if-items_of-eq0.false (c.items_of.ensures ∙ z)) c.if-task-eq0.true
-
-pub item-requires : goal.item-requires
-item-requires c =
-    record { queue = shape_queue _ _ _ c.requires.placed (sym c.is_in_shape.ensures ∙ c.if-not-is_in_shape.false); i_lt_slots = omega arith }
-
-pub returns-then-item-eq0 : goal.returns-then-item-eq0
-returns-then-item-eq0 c =
-    seat-gap _ _ _ _ _ (sym c.is_in_shape.ensures ∙ c.if-not-is_in_shape.false) (λ z. c.if-items_of-eq0.false (c.items_of.ensures ∙ z)) (sym c.item.ensures ∙ c.if-item-eq0.true)
+    let e = sym c.is_in_shape.ensures ∙ c.if-not-is_in_shape.false in
+    let some = rw c.items_of.ensures at c.if-items_of-eq0.false in
+    elim c.then-task-eq0.branch [
+      | then-task-eq0-via-then-task-eq0 w ↦ seat-unbound _ _ _ _ _ e some w.if-task-eq0.true
+      | then-task-eq0-via-else-task-eq0+then-item-eq0 w ↦ seat-gap _ _ _ _ _ e some (sym w.item.ensures ∙ w.if-item-eq0.true)
+    ]
 
 pub are_within-requires : goal.are_within-requires
-are_within-requires c =
-    shape_queue _ _ _ c.requires.placed (sym c.is_in_shape.ensures ∙ c.if-not-is_in_shape.false)
-
-pub returns-then-not-are_within : goal.returns-then-not-are_within
-returns-then-not-are_within c =
-    seat-high _ _ _ _ _ (sym c.is_in_shape.ensures ∙ c.if-not-is_in_shape.false) (λ z. c.if-items_of-eq0.false (c.items_of.ensures ∙ z)) (sym c.are_within.ensures ∙ c.if-not-are_within.true)
+are_within-requires c = shape_queue _ _ _ c.requires.placed (sym c.is_in_shape.ensures ∙ c.if-not-is_in_shape.false)
 
 pub gap_flag-requires : goal.gap_flag-requires
-gap_flag-requires c =
-    shape_queue _ _ _ c.requires.placed (sym c.is_in_shape.ensures ∙ c.if-not-is_in_shape.false)
+gap_flag-requires c = shape_queue _ _ _ c.requires.placed (sym c.is_in_shape.ensures ∙ c.if-not-is_in_shape.false)
 
-pub returns : goal.returns
-returns c =
+pub returns-then-are_within : goal.returns-then-are_within
+returns-then-are_within c =
     let x = c.args in
-    seat-flag _ _ _ _ _ (sym c.is_in_shape.ensures ∙ c.if-not-is_in_shape.false) (λ z. c.if-items_of-eq0.false (c.items_of.ensures ∙ z)) c.if-task-eq0.false (λ z. c.if-item-eq0.false (c.item.ensures ∙ z)) (sym c.are_within.ensures ∙ c.if-not-are_within.false) _
+    seat-flag _ _ _ _ _ (sym c.is_in_shape.ensures ∙ c.if-not-is_in_shape.false) (rw c.items_of.ensures at c.if-items_of-eq0.false) c.if-task-eq0.false (rw c.item.ensures at c.if-item-eq0.false) (sym c.are_within.ensures ∙ c.if-are_within.true) _
     (ap (λ (n : ℕ). eqb (get_or x.node.now (x.q + 2) 0) n) c.gap_flag.ensures)
+
+pub returns-else-are_within : goal.returns-else-are_within
+returns-else-are_within c =
+    c.if-are_within.false ∙ seat-high _ _ _ _ _ (sym c.is_in_shape.ensures ∙ c.if-not-is_in_shape.false) (rw c.items_of.ensures at c.if-items_of-eq0.false) (sym c.are_within.ensures ∙ c.if-are_within.false)

@@ -2,16 +2,36 @@
 use mathlib.Core.Path.{sym, ◌∙◌}
 use Rattle.sound.proofs.Tests.{no_first, yes_first}
 use Rattle.shapes.specs.Shape.{right_stretch}
+use Rattle.shapes.proofs.Posts.{placed_sends, placed_acks, sends_are, acks_are}
+use Rattle.shapes.proofs.is_right_stretch.Goals.{then-are_right_posts, else-are_right_posts}
 use Rattle.shapes.proofs.is_right_stretch.Goals as goal
 
-pub returns-then-not-are_right_sends : goal.returns-then-not-are_right_sends
-unfolding right_stretch
-returns-then-not-are_right_sends c = no_first _ _ (sym c.are_right_sends.ensures ∙ c.if-not-are_right_sends.true)
+pub are_right_posts-requires : goal.are_right_posts-requires
+are_right_posts-requires c = placed_sends _ _ _ _ c.requires.stretch c.send_kind.ensures c.send_at.ensures.is
 
-pub returns-then-not-are_right_acks : goal.returns-then-not-are_right_acks
-unfolding right_stretch
-returns-then-not-are_right_acks c = yes_first _ _ _ (sym c.are_right_sends.ensures ∙ c.if-not-are_right_sends.false) (no_first _ _ (sym c.are_right_acks.ensures ∙ c.if-not-are_right_acks.true))
+pub are_right_posts-requires-then-are_right_posts : goal.are_right_posts-requires-then-are_right_posts
+are_right_posts-requires-then-are_right_posts c = placed_acks _ _ _ _ c.requires.stretch c.ack_kind.ensures c.ack_at.ensures.is
 
-pub returns : goal.returns
+pub returns-then-are_right_posts-2 : goal.returns-then-are_right_posts-2
 unfolding right_stretch
-returns c = yes_first _ _ _ (sym c.are_right_sends.ensures ∙ c.if-not-are_right_sends.false) (yes_first _ _ _ (sym c.are_right_acks.ensures ∙ c.if-not-are_right_acks.false) c.are_right_seats.ensures)
+returns-then-are_right_posts-2 c =
+    let x = c.args in
+    let a = sends_are x.s x.node.now _ _ x.i _ c.are_right_posts.ensures c.send_kind.ensures c.send_at.ensures.is in
+    elim c.if-are_right_posts.branch [
+      | then-are_right_posts w ↦
+          let b = acks_are x.s x.node.now _ _ x.i _ w.are_right_posts-then-are_right_posts.ensures w.ack_kind.ensures w.ack_at.ensures.is in
+          yes_first _ _ _ (sym a ∙ w.if-are_right_posts.true) (yes_first _ _ _ (sym b ∙ sym w.value-is ∙ c.if-are_right_posts-2.true) c.are_right_seats.ensures)
+      | else-are_right_posts w ↦ absurd (let z = sym w.if-are_right_posts.false ∙ sym w.value-is ∙ c.if-are_right_posts-2.true in cc)
+    ]
+
+pub returns-else-are_right_posts-2 : goal.returns-else-are_right_posts-2
+unfolding right_stretch
+returns-else-are_right_posts-2 c =
+    let x = c.args in
+    let a = sends_are x.s x.node.now _ _ x.i _ c.are_right_posts.ensures c.send_kind.ensures c.send_at.ensures.is in
+    elim c.if-are_right_posts.branch [
+      | then-are_right_posts w ↦
+          let b = acks_are x.s x.node.now _ _ x.i _ w.are_right_posts-then-are_right_posts.ensures w.ack_kind.ensures w.ack_at.ensures.is in
+          c.if-are_right_posts-2.false ∙ yes_first _ _ _ (sym a ∙ w.if-are_right_posts.true) (no_first _ _ (sym b ∙ sym w.value-is ∙ c.if-are_right_posts-2.false))
+      | else-are_right_posts w ↦ c.if-are_right_posts-2.false ∙ no_first _ _ (sym a ∙ w.if-are_right_posts.false)
+    ]

@@ -11,17 +11,17 @@ length_of-length-requires c = waits-begins c.args.s c.args.memory.now c.args.j c
 pub needs_of-n-requires : goal.needs_of-n-requires
 needs_of-n-requires c = let both = waits-small c.args.s c.args.memory.now c.args.j c.args.i c.requires c.first_of-x.ensures c.length_of-length.ensures in record { in_range = both.0; n_bound = both.1 }
 
-pub take_space-taken-requires : goal.take_space-taken-requires
-take_space-taken-requires c = waits-takes c.args.s c.args.memory.now c.args.j c.args.i c.requires c.first_of-x.ensures c.length_of-length.ensures c.needs_of-n.ensures
+pub take_space-requires : goal.take_space-requires
+take_space-requires c = waits-takes c.args.s c.args.memory.now c.args.j c.args.i c.requires c.first_of-x.ensures c.length_of-length.ensures c.needs_of-n.ensures
 
 pub count_room-requires : goal.count_room-requires
-count_room-requires c = short_lent c.args.s c.args.memory.now c.args.j c.args.i c.requires c.first_of-x.ensures c.length_of-length.ensures c.needs_of-n.ensures c.take_space-taken.ensures.0 c.take_space-taken.ensures.1 c.in_default.is
+count_room-requires c = short_lent c.args.s c.args.memory.now c.args.j c.args.i c.requires c.first_of-x.ensures c.length_of-length.ensures c.needs_of-n.ensures c.take_space.ensures.0 c.take_space.ensures.1 c.in_default.is
 
 pub returns-in_default : goal.returns-in_default
-returns-in_default c = short_is c.args.s c.args.memory.now c.args.j c.args.i c.requires c.first_of-x.ensures c.length_of-length.ensures c.needs_of-n.ensures c.take_space-taken.ensures.0 c.take_space-taken.ensures.1 c.in_default.is c.count_room.ensures
+returns-in_default c = short_is c.args.s c.args.memory.now c.args.j c.args.i c.requires c.first_of-x.ensures c.length_of-length.ensures c.needs_of-n.ensures c.take_space.ensures.0 c.take_space.ensures.1 c.in_default.is c.count_room.ensures
 
 pub copy-requires : goal.copy-requires
-copy-requires c = first_copies c.args.s c.args.memory.now c.args.j c.args.i c.requires c.first_of-x.ensures c.length_of-length.ensures c.needs_of-n.ensures c.take_space-taken.ensures.0 c.take_space-taken.ensures.1 c.in-First.is
+copy-requires c = first_copies c.args.s c.args.memory.now c.args.j c.args.i c.requires c.first_of-x.ensures c.length_of-length.ensures c.needs_of-n.ensures c.take_space.ensures.0 c.take_space.ensures.1 c.in-Some.is
 
 pub returns : goal.returns
-returns c = first_is c.args.s c.args.memory.now c.args.j c.args.i c.requires c.first_of-x.ensures c.length_of-length.ensures c.needs_of-n.ensures c.take_space-taken.ensures.0 c.take_space-taken.ensures.1 c.in-First.is c.copy.ensures
+returns c = first_is c.args.s c.args.memory.now c.args.j c.args.i c.requires c.first_of-x.ensures c.length_of-length.ensures c.needs_of-n.ensures c.take_space.ensures.0 c.take_space.ensures.1 c.in-Some.is c.copy.ensures

@@ -1,13 +1,9 @@
 -- `taking::gap_flag` meets its contract: the flag from place i on is the flag. Assumes nothing.
 use Rattle.queues.specs.Items.{gap_flag}
-use Rattle.queues.specs.Queue as queue
 use Rattle.queues.specs.Queue.{run, contents}
-use Prim.Native.Nat.{◌-◌, ◌≤◌}
+use Prim.Native.Nat.{◌-◌}
 use mathlib.Core.Path.{◌≡◌}
 use Rattle.taking.proofs.gap_flag.Given as goal
 
 abbrev pub invariant-loop-i : goal.invariant-loop-i
-invariant-loop-i l = (l.items ≡ queue.items l.k l.node l.q) × (l.i ≤ l.items) × (gap_flag (run l.k l.node l.q l.i (l.items - l.i)) ≡ gap_flag (contents l.k l.node l.q))
-
-abbrev pub decreases-loop-i : goal.decreases-loop-i
-decreases-loop-i l = l.items - l.i
+invariant-loop-i l = gap_flag (run l.k l.node l.q l.i (l.items - l.i)) ≡ gap_flag (contents l.k l.node l.q)
