@@ -4,3 +4,4 @@ pub mod Chains
 pub mod Rows
 pub mod Laws
 pub mod Moves
+pub mod Named

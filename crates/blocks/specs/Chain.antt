@@ -1,5 +1,5 @@
 -- Blocks, links, chains and the free list of a node's stretch: 'Letters'.
-use Rattle.std.specs.Prelude.{◌≡◌, cond, List, [], ◌∷◌, ◌++◌, ℕ, zero, suc, ◌+◌, ◌-◌, ◌/◌, ◌≤◌, eqb, get_or}
+use Rattle.std.specs.Prelude.{◌≡◌, cond, List, [], ◌∷◌, ◌++◌, ℕ, zero, suc, ◌+◌, ◌-◌, ◌/◌, ◌≤◌, eqb, get_or, Option, Some, None}
 use Rattle.words.specs.Words.{part}
 use Rattle.words.specs.Count.{occurs}
 use Rattle.settings.specs.declared.Settings.{Settings}
@@ -37,6 +37,10 @@ module _ (s : Settings) (node : List ℕ) where
   unfoldable pub text : List ℕ → List ℕ
   text [] = []
   text (b ∷ l) = part node (block_at s b) (link_at s b) ++ text l
+
+-- the block of a number: '0 means none'
+abbrev pub block_of : ℕ → Option ℕ
+block_of b = cond (eqb b 0) None (Some b)
 
 -- each number of the list is that of a block, 1 to M
 unfoldable pub Within : ℕ → List ℕ → Type 0

@@ -5,7 +5,7 @@ ghost use Rattle.std.specs.Prelude.{◌≡◌, ◌-◌, ◌≤◌, get_or, set};
 ghost use Rattle.settings.specs.declared.Settings.{Settings};
 ghost use Rattle.settings.specs.Range.{InRange};
 ghost use Rattle.layout.specs.Places.{link_at};
-ghost use Rattle.blocks.specs.Chain.{needs, link, after, list};
+ghost use Rattle.blocks.specs.Chain.{needs, link, after, list, block_of};
 ghost use Rattle.blocks.specs.Asked.{Block, Walks, Follows, Reaches, Takes};
 ghost use Rattle.blocks.specs.Moves.{taken, taken_answer, given_back};
 
@@ -20,7 +20,7 @@ pub fn needs_of(s: Settings, n: usize) -> usize
     n.div_ceil(s.b - 1)
 }
 
-// The block that follows b.
+// The block that follows b; a block goes by its number, since the document lays blocks and links out so in the memory.
 pub fn link_of(node: &[u32], s: Settings, b: u32) -> u32
     requires { Block s node.now b }
     ensures { result ≡ link s node.now b }
@@ -73,19 +73,19 @@ pub fn give_back(node: &mut [u32], s: Settings, b: u32, owed: usize)
     node[0] = b;
 }
 
-// The n-th block from b on; 0 where a link 0 comes before.
-pub fn reach(node: &[u32], s: Settings, b: u32, n: usize) -> u32
+// The n-th block from b on; none where a link 0 comes before.
+pub fn reach(node: &[u32], s: Settings, b: u32, n: usize) -> Option<u32>
     requires { Reaches s node.now n b }
-    ensures { result ≡ get_or (list s node.now n b) (n - 1) 0 }
+    ensures { result ≡ block_of (get_or (list s node.now n b) (n - 1) 0) }
 {
     let mut at = b;
     for _ in 1..n {
         if at == 0 {
-            return 0;
+            return None;
         }
         at = link_of(node, s, at);
     }
-    at
+    if at == 0 { None } else { Some(at) }
 }
 
 // Takes the first n blocks of the free list, in its order, and answers the first of them; none where there are too few.
@@ -95,10 +95,7 @@ pub fn take(node: &mut [u32], s: Settings, n: usize) -> Option<u32>
     ensures stored { node.new ≡ taken s node.old n }
 {
     let first = node[0];
-    let last = reach(node, s, first, n);
-    if last == 0 {
-        return None;
-    }
+    let last = reach(node, s, first, n)?;
     let next = link_of(node, s, last);
     node[0] = next;
     set_link(node, s, last, 0);

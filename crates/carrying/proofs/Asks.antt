@@ -7,8 +7,8 @@ use lib.ListN.{length}
 use Rattle.words.proofs.Lists.{put_other}
 use Rattle.settings.specs.declared.Settings.{Settings}
 use Rattle.settings.specs.Range.{InRange}
+use Rattle.layout.specs.Asked.{Sized}
 use Rattle.layout.specs.Places.{nodes, send_at, ack_at, node, with_node}
-use Rattle.queues.specs.declared.Kind.{Kind}
 use Rattle.queues.specs.Queue.{Queue, send_kind, ack_kind, items}
 use Rattle.queues.specs.Moves.{appended}
 use Rattle.queues.proofs.Views.{length-contents, length-appended}
@@ -23,7 +23,7 @@ use Rattle.postman.specs.Round.{Did, did, Post, post, on_stage, into, blocks_bac
 use Rattle.postman.specs.Asked.{SoundAt, Waits, Owes}
 use Rattle.stages_keep.specs.Steps.{first_of, space_of, copied_in, queued, acknowledged, carried, carried_all, collected, collected_all, collected_from}
 use Rattle.stages_keep.proofs.Laws.{copied-stands, queued-stands, carried_next, carried_all_lem, collected_next, names_in, names_apart, names-waits}
-use Rattle.lending.specs.Asked.{Lent, HasQueue, HasFirst}
+use Rattle.lending.specs.Asked.{Lent, HasFirst}
 use Rattle.stages.specs.Asked.{GaveBack}
 use Rattle.stages.proofs.Stood.{stood_sized, stood_lent, stood_stretch, stood_send, stood_ack}
 use Rattle.stages.proofs.Copying.{with_sized}
@@ -31,34 +31,34 @@ use Rattle.carrying.specs.Asked.{Delivers, Carries, CarriesFrom, Collects, Colle
 use Rattle.carrying.proofs.Sums.{carried-most, all_most, collected-back, all_back}
 
 -- ---- how many items a queue of node i for j has
-module _ (s : Settings) (m : List ℕ) (j i : ℕ) (g : SoundAt s m j at_rest) (h : i < nodes) where
-  pub count-range : InRange s × (j < 6)
-  count-range = ((stood_sized s m j at_rest g).range, g.postman)
+module _ (s : Settings) (m : List ℕ) (j : ℕ) (g : SoundAt s m j at_rest) where
+  pub rest_sized : Sized s m
+  rest_sized = stood_sized s m j at_rest g
 
-  sends : Queue (send_kind s) (node s m i) (send_at s j)
-  sends = stood_send s m j at_rest g i h j g.postman
+  pub rest_range : InRange s
+  rest_range = rest_sized.range
 
-  acks : Queue (ack_kind s) (node s m i) (ack_at s j)
-  acks = stood_ack s m j at_rest g i h j g.postman
+  pub rest_lent : Lent s m j
+  rest_lent = stood_lent s m j at_rest g j g.postman
 
-  pub sends-few : length (send_items s m i j) ≤ 255
-  sends-few = omega (arith, length-contents (send_kind s) (node s m i) (send_at s j) sends, sends.count, sends.placed.small)
+  module _ (i : ℕ) (h : i < nodes) where
+    pub sends : Queue (send_kind s) (node s m i) (send_at s j)
+    sends = stood_send s m j at_rest g i h j g.postman
 
-  pub acks_few : length (ack_items s m i j) ≤ 255
-  acks_few = omega (arith, length-contents (ack_kind s) (node s m i) (ack_at s j) acks, acks.count, acks.placed.small)
+    pub acks : Queue (ack_kind s) (node s m i) (ack_at s j)
+    acks = stood_ack s m j at_rest g i h j g.postman
 
-  module _ {k : Kind} {q : ℕ} where
-    pub sends-queue : k ≡ send_kind s → q ≡ send_at s j → HasQueue s m i k q
-    sends-queue ek eq = rw (ek, eq) (record { lent = stood_lent s m j at_rest g i h; queue = sends })
+    pub sends_count : items (send_kind s) (node s m i) (send_at s j) ≡ length (send_items s m i j)
+    sends_count = sym (length-contents (send_kind s) (node s m i) (send_at s j) sends)
 
-    pub sends-count : k ≡ send_kind s → q ≡ send_at s j → {n : ℕ} → n ≡ items k (node s m i) q → n ≡ length (send_items s m i j)
-    sends-count ek eq e = e ∙ rw eq (sym (length-contents (send_kind s) (node s m i) (send_at s j) sends))
+    pub acks_count : items (ack_kind s) (node s m i) (ack_at s j) ≡ length (ack_items s m i j)
+    acks_count = sym (length-contents (ack_kind s) (node s m i) (ack_at s j) acks)
 
-    pub acks_queue : k ≡ ack_kind s → q ≡ ack_at s j → HasQueue s m i k q
-    acks_queue ek eq = rw (ek, eq) (record { lent = stood_lent s m j at_rest g i h; queue = acks })
+    pub sends-few : length (send_items s m i j) ≤ 255
+    sends-few = omega (arith, sends_count, sends.count, sends.placed.small)
 
-    pub acks_count : k ≡ ack_kind s → q ≡ ack_at s j → {n : ℕ} → n ≡ items k (node s m i) q → n ≡ length (ack_items s m i j)
-    acks_count ek eq e = e ∙ rw eq (sym (length-contents (ack_kind s) (node s m i) (ack_at s j) acks))
+    pub acks_few : length (ack_items s m i j) ≤ 255
+    acks_few = omega (arith, acks_count, acks.count, acks.placed.small)
 
 -- ---- a stage that was done
 went : (s : Settings) (j : ℕ) (p q : Position) {d : Did} {m : List ℕ} {h : Stage} → did m h ≡ d → h ≡ Done → SoundAt s d.memory j (on_stage d.how p q) → SoundAt s m j q
@@ -71,8 +71,8 @@ module _ (s : Settings) (m : List ℕ) (j i : ℕ) (g : SoundAt s m j (at 3 i 0)
   names : (i < 6) × (1 ≤ length (send_items s m i j))
   names = (names_in s m j i 3 0 g (omega arith), names-waits s m j i 3 0 g (omega arith))
 
-  pub hand-there : i < nodes
-  hand-there = names.0
+  pub hand_there : i < nodes
+  hand_there = names.0
 
   abbrev u : List ℕ
   u = appended (ack_kind s) (node s m j) (ack_at s i) (first_of s j m i)
@@ -93,18 +93,15 @@ module _ (s : Settings) (m : List ℕ) (j i : ℕ) (g : SoundAt s m j (at 3 i 0)
       }
 
 -- stage 2
-module _ (s : Settings) (m : List ℕ) (j i c : ℕ) (r : Round) (g : Delivers s m j i c r) where
-  pub deliver_there : i < nodes
-  deliver_there = names_in s m j i 2 c g.stands (omega arith)
+pub deliver_there : (s : Settings) (m : List ℕ) (j i c : ℕ) → SoundAt s m j (at 2 i c) → i < nodes
+deliver_there s m j i c g = names_in s m j i 2 c g (omega arith)
 
+module _ (s : Settings) (m : List ℕ) (j i c : ℕ) (r : Round) (g : Delivers s m j i c r) where
   pub deliver_hand : {m₁ : List ℕ} {h : Stage} → did m₁ h ≡ queued s j m c → h ≡ Done → SoundAt s m₁ j (at 3 i 0)
   deliver_hand e t = went s j (at 2 i c) (at 3 i 0) e t (queued-stands s m j i c g.stands)
 
 -- stage 1
 module _ (s : Settings) (m : List ℕ) (j i : ℕ) (r : Round) (g : Carries s m j i 1 r) where
-  pub carry_lent : Lent s m j
-  carry_lent = stood_lent s m j at_rest g.waits.stands j g.waits.stands.postman
-
   pub carry_deliver : {c : ℕ} {m₁ : List ℕ} {h : Stage} → c ≡ space_of s j m → did m₁ h ≡ copied_in s j m i → h ≡ Done → Delivers s m₁ j i c r
   carry_deliver {c} {m₁} f e t =
       let x : SoundAt s m₁ j (at 2 i (space_of s j m)) = went s j (at 1 i 0) (at 2 i (space_of s j m)) e t (copied-stands s m j i g.waits) in
@@ -112,12 +109,6 @@ module _ (s : Settings) (m : List ℕ) (j i : ℕ) (r : Round) (g : Carries s m 
 
 -- ---- step 2 on one node
 module _ (s : Settings) (m : List ℕ) (j i k l : ℕ) (r : Round) (g : Carries s m j i k r) (h : k ≡ l + 1) where
-  pub all_one : Carries s m j i 1 r
-  all_one =
-      let f = g.few in
-      let w = g.waits.letters in
-      record { waits = record { stands = g.waits.stands; there = g.waits.there; letters = omega arith }; few = omega arith }
-
   pub all_next : {m₁ : List ℕ} {a : Round} → post m₁ a ≡ carried s j m i r → a.how ≡ Done → Carries s m₁ j i l a
   all_next {m₁} {a} e t =
       let w : Waits s m j i (l + 1) = subst (λ (n : ℕ). Waits s m j i n) h g.waits in
@@ -130,13 +121,13 @@ module _ (s : Settings) (m : List ℕ) (j i k l : ℕ) (r : Round) (g : Carries 
 module _ (s : Settings) (m : List ℕ) (j i : ℕ) (r : Round) (g : CarriesFrom s m j i r) (h : i < 6) {k : ℕ} (e : k ≡ length (send_items s m i j)) where
   pub from_all : Carries s m j i k r
   from_all =
-      let l = sends-few s m j i g.stands h in
+      let l = sends-few s m j g.stands i h in
       let f = g.few in
       record { waits = record { stands = g.stands; there = h; letters = omega arith }; few = omega arith }
 
   pub from_next : {m₁ : List ℕ} {a : Round} → post m₁ a ≡ carried_all s j k m i r → a.how ≡ Done → CarriesFrom s m₁ j (i + 1) a
   from_next {m₁} {a} q t =
-      let l = sends-few s m j i g.stands h in
+      let l = sends-few s m j g.stands i h in
       let f = g.few in
       let d : (carried_all s j k m i r).round.how ≡ Done = subst (λ (p : Post). p.round.how ≡ Done) q t in
       let x : SoundAt s m₁ j at_rest = subst (λ (p : Post). SoundAt s p.memory j at_rest) (sym q) (carried_all_lem s m j i k r g.going from_all.waits d) in
@@ -153,12 +144,6 @@ module _ (s : Settings) (m : List ℕ) (j i k : ℕ) (r : Round) (g : Collects s
   blocks-few = (stood_sized s m j at_rest g.owes.stands).range.m.high
 
   module _ (l : ℕ) (h : k ≡ l + 1) where
-    pub back_one : Collects s m j i 1 r
-    back_one =
-        let f = g.few in
-        let w = g.owes.items in
-        record { owes = record { stands = g.owes.stands; there = g.owes.there; items = omega arith }; few = omega arith }
-
     pub back_next : {m₁ : List ℕ} {a : Round} → post m₁ a ≡ collected s j m i r → Collects s m₁ j i l a
     back_next {m₁} {a} e =
         let w : Owes s m j i (l + 1) = subst (λ (n : ℕ). Owes s m j i n) h g.owes in
@@ -179,13 +164,13 @@ module _ (s : Settings) (j i : ℕ) where
 module _ (s : Settings) (m : List ℕ) (j i : ℕ) (r : Round) (g : CollectsFrom s m j i r) (h : i < 6) {k : ℕ} (e : k ≡ length (ack_items s m i j)) where
   pub backs_all : Collects s m j i k r
   backs_all =
-      let l = acks_few s m j i g.stands h in
+      let l = acks_few s m j g.stands i h in
       let f = g.few in
       record { owes = record { stands = g.stands; there = h; items = omega arith }; few = omega arith }
 
   pub backs_next : {m₁ : List ℕ} {a : Round} → post m₁ a ≡ collected_all s j k m i r → CollectsFrom s m₁ j (i + 1) a
   backs_next {m₁} {a} q =
-      let l = acks_few s m j i g.stands h in
+      let l = acks_few s m j g.stands i h in
       let f = g.few in
       let b = (stood_sized s m j at_rest g.stands).range.m.high in
       let x : SoundAt s m₁ j at_rest = subst (λ (p : Post). SoundAt s p.memory j at_rest) (sym q) (all-owes s j i k m r backs_all.owes) in

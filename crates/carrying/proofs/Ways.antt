@@ -1,4 +1,4 @@
--- One law for each way that a stage, a step and a turn go on. Assumes nothing.
+-- One law for each way that a step and a turn go on. Assumes nothing.
 use mathlib.Core.Path.{◌≡◌, ◌∙◌, subst}
 use mathlib.Core.List.{List}
 use Prim.Native.Nat.{ℕ, suc, ◌+◌, ◌-◌, ◌≤◌, ◌<◌}
@@ -10,23 +10,13 @@ use Rattle.sound.specs.Reading.{send_items, ack_items}
 use Rattle.postman.specs.declared.Stage.{Stage}
 use Rattle.postman.specs.declared.Stage.TheVariants.{Done, Stopped}
 use Rattle.postman.specs.declared.Round.{Round}
-use Rattle.postman.specs.Round.{Did, did, Post, post, on_stage, stage, and_then, into}
+use Rattle.postman.specs.Round.{Post, post, on_stage, and_then, into}
 use Rattle.stages_keep.specs.Steps.{carried, carried_all, carried_from, collected, collected_all, collected_from}
-
--- ---- a stage that stopped, and one that was done
-module _ (stop : Stage → Round) (go : List ℕ → Post) {d : Did} {m : List ℕ} {h : Stage} where
-  pub stage-stop : {n : ℕ} {a : Round} → did m h ≡ d → h ≡ Stopped n → a ≡ stop h → post m a ≡ stage d stop go
-  unfolding stage
-  stage-stop e t u = rw (← e, u, t)
-
-  pub stage_go : {p : Post} → did m h ≡ d → h ≡ Done → p ≡ go m → p ≡ stage d stop go
-  unfolding stage
-  stage_go e t u = rw (← e, t, u)
 
 on_done : (h : Stage) (a b : Post) → h ≡ Done → b ≡ on_stage h a b
 on_done h a b e = rw e
 
--- ---- the same of what may stop
+-- ---- after what may stop
 module _ (f : List ℕ → Round → Post) {p : Post} {m : List ℕ} {r : Round} where
   pub then_stop : {n : ℕ} → post m r ≡ p → r.how ≡ Stopped n → post m r ≡ and_then p f
   unfolding and_then

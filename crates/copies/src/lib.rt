@@ -9,6 +9,7 @@ ghost use Rattle.sound.specs.Letters.{words_from};
 ghost use Rattle.visits.specs.Letters.{Readable};
 ghost use Rattle.copies.specs.Copy.{copy_right, Lettered};
 
+use queues::QueueAt;
 use settings::Settings;
 
 // Whether the first n words of block x in stretch a and of block y in stretch c are the same.
@@ -24,6 +25,7 @@ fn is_same_block(a: &[u32], x: u32, c: &[u32], y: u32, s: Settings, n: usize) ->
 }
 
 // Whether the letters that block b begins in stretch a and block d in stretch c have the same words: both are gone through block by block.
+#[tactic(auto, using(visits::proofs::Read::header_lies))]
 fn is_same_letter(a: &[u32], b: u32, c: &[u32], d: u32, s: Settings) -> bool
     requires readable { Readable s a.now b }
     requires readable_2 { Readable s c.now d }
@@ -62,8 +64,7 @@ fn is_right_copy(memory: &[u32], s: Settings, j: usize) -> bool
     let held = memory[at + 2];
     let own = layout::stretch(memory, s, j);
     let theirs = layout::stretch(memory, s, other);
-    let q = layout::send_at(s, j);
-    let first = queues::item(theirs, queues::send_kind(s), q, 0);
+    let first = QueueAt::send(s, j).item(theirs, 0);
     is_same_letter(own, held, theirs, first, s)
 }
 

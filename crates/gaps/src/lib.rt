@@ -7,19 +7,18 @@ ghost use Rattle.queues.specs.Items.{live};
 ghost use Rattle.gaps.specs.Close.{laid, closed, roomy, task_appended, task_answer};
 ghost use Rattle.gaps.specs.Row.{Row};
 
-use queues::{Full, Kind};
+use queues::{Full, Kind, QueueAt};
 use settings::Settings;
 
 // Copies the live items to the row, and answers how many they are.
-fn gather(node: &[u32], k: Kind, q: usize, row: &mut [u32; 255]) -> u32
-    requires queue { Queue k node.now q }
+fn gather(node: &[u32], queue: QueueAt, row: &mut [u32; 255]) -> u32
+    requires queue { Queue queue.kind node.now queue.at }
     requires row_value { row.old ≡ replicate 255 0 }
-    ensures { Row (live (contents k node.now q)) row.new result }
+    ensures { Row (live (contents queue.kind node.now queue.at)) row.new result }
 {
-    let items = queues::items_of(node, k, q);
     let mut n: usize = 0;
-    for i in 0..items {
-        let x = queues::item(node, k, q, i);
+    for i in 0..queue.items(node) {
+        let x = queue.item(node, i);
         if x != 0 {
             row[n] = x;
             n += 1;
@@ -29,14 +28,13 @@ fn gather(node: &[u32], k: Kind, q: usize, row: &mut [u32; 255]) -> u32
 }
 
 // Lays the row into the slots, from the start slot on.
-fn lay(node: &mut [u32], k: Kind, q: usize, row: &[u32; 255])
-    requires { Queue k node.old q }
-    ensures { node.new ≡ laid k node.old q row.now k.slots }
+fn lay(node: &mut [u32], queue: QueueAt, row: &[u32; 255])
+    requires { Queue queue.kind node.old queue.at }
+    ensures { node.new ≡ laid queue.kind node.old queue.at row.now queue.kind.slots }
 {
-    let first = node[q] as usize;
-    for i in 0..k.slots {
-        let at = queues::slot_at(k, q, first, i);
-        node[at] = row[i];
+    let first = node[queue.at] as usize;
+    for i in 0..queue.kind.slots {
+        node[queue.slot(first, i)] = row[i];
     }
 }
 
@@ -45,10 +43,14 @@ pub fn close(node: &mut [u32], s: Settings, q: usize)
     requires { Queue (task_kind s) node.old q }
     ensures { node.new ≡ closed s node.old q }
 {
-    let k = queues::task_kind(s);
+    let queue = QueueAt {
+        kind: Kind::task(s),
+        at: q,
+    };
+    // the side row, in fixed memory: there is no heap
     let mut row = [0u32; 255];
-    let n = gather(node, k, q, &mut row);
-    lay(node, k, q, &row);
+    let n = gather(node, queue, &mut row);
+    lay(node, queue, &row);
     node[q + 1] = n;
     node[q + 2] = 0;
 }
@@ -69,6 +71,9 @@ pub fn append(node: &mut [u32], s: Settings, q: usize, item: u32) -> Result<(), 
     ensures { (node.new ≡ task_appended s node.old q item) × (result ≡ task_answer s node.old q) }
 {
     make_room(node, s, q);
-    let k = queues::task_kind(s);
-    queues::append(node, k, q, item)
+    let queue = QueueAt {
+        kind: Kind::task(s),
+        at: q,
+    };
+    queue.append(node, item)
 }

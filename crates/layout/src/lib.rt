@@ -17,7 +17,6 @@ ghost use Rattle.layout.specs.Places.{
   nodes,
   node,
   table_at,
-  table_words,
   nodes_at,
 };
 ghost use Rattle.layout.specs.Asked.{Sized, IsNodeSize, IsNodeAt, IsAt};
@@ -94,7 +93,8 @@ pub fn link_at(s: Settings, b: usize) -> usize
     block_at(s, b) + (s.b - 1)
 }
 
-// Node i's stretch of the memory, to be read.
+// Node i's stretch of the memory, to be read. It goes beside its settings, as the memory does: what changes a stretch takes it as a plain `&mut` slice
+// (docs/DECISIONS.md, Forms), and a struct for what reads it would make two forms of each function, no plainer.
 pub fn stretch(memory: &[u32], s: Settings, i: usize) -> &[u32]
     requires sized { Sized s memory.now }
     requires i_lt_nodes { i < nodes }
@@ -106,9 +106,9 @@ pub fn stretch(memory: &[u32], s: Settings, i: usize) -> &[u32]
 }
 
 // The task table of the memory, to be read.
-pub fn table(memory: &[u32]) -> &[u32]
+pub fn table(memory: &[u32]) -> &[u32; 512]
     requires { nodes_at ≤ length memory.now }
-    ensures { (result.now ≡ part memory.now table_at nodes_at) × (length result.now ≡ table_words) }
+    ensures { result.now ≡ part memory.now table_at nodes_at }
 {
-    &memory[24..536]
+    memory[24..536].try_into().unwrap()
 }

@@ -11,6 +11,7 @@ use Rattle.settings.specs.declared.Settings.{Settings}
 use Rattle.layout.specs.Places.{send_at, task_at, node}
 use Rattle.layout.specs.Numbers.{source_task_word, source_node_word, destination_task_word}
 use Rattle.tasks.specs.Table.{node_of, queue_of, is_bound}
+use Rattle.tasks.specs.declared.Seat.{Seat}
 use Rattle.tasks.specs.Seat.{seat_of}
 use Rattle.std.specs.Prelude.{Some, None}
 use Rattle.tasks.proofs.Laws.{told_at, told-unbound, seat_below}
@@ -23,12 +24,12 @@ use Rattle.stages_keep.specs.Steps.{first_of, queue_for}
 use Rattle.lending.specs.Asked.{Addressed, HasQueue, HasFirst}
 
 -- ---- the first item of a send queue
-module _ (s : Settings) (m : List ℕ) (i j : ℕ) (g : HasFirst s m i j) {k : Kind} {q : ℕ} (ek : k ≡ send_kind s) (eq : q ≡ send_at s j) where
-  pub first-queue : HasQueue s m i k q
-  first-queue = rw (ek, eq) (record { lent = g.lent; queue = g.queue })
+module _ (s : Settings) (m : List ℕ) (i j : ℕ) (g : HasFirst s m i j) where
+  pub first-queue : {k : Kind} {q : ℕ} → k ≡ send_kind s → q ≡ send_at s j → HasQueue s m i k q
+  first-queue ek eq = rw (ek, eq) (record { lent = g.lent; queue = g.queue })
 
-  pub first_item : {r : ℕ} → r ≡ item_at k (node s m i) q 0 → r ≡ first_of s j m i
-  first_item e = e ∙ rw (ek, eq) (contents_item (send_kind s) (node s m i) (send_at s j) g.queue 0 (omega (arith, g.queue.placed.some)))
+  pub first_item : item_at (send_kind s) (node s m i) (send_at s j) 0 ≡ first_of s j m i
+  first_item = contents_item (send_kind s) (node s m i) (send_at s j) g.queue 0 (omega (arith, g.queue.placed.some))
 
 -- ---- the queue for a letter
 module _ (s : Settings) (m : List ℕ) (j c : ℕ) (a : Addressed s m j c) where
@@ -45,16 +46,15 @@ module _ (s : Settings) (m : List ℕ) (j c : ℕ) (a : Addressed s m j c) where
   pub queue-small : queue_of (table_in m) (get_or ws destination_task_word 0) < 64
   queue-small = (seat_below (table_in m) (get_or ws destination_task_word 0) a.table bound).1
 
-  module _ {task : ℕ} (et : task ≡ get_or ws destination_task_word 0) where
-    pub never_unbound : seat_of (table_in m) task ≡ None → ⊥
-    never_unbound e = let f = told-unbound (table_in m) (get_or ws destination_task_word 0) (rw et at e) in false≢true (sym f ∙ bound)
+  pub never_unbound : seat_of (table_in m) (get_or ws destination_task_word 0) ≡ None → ⊥
+  never_unbound e = let f = told-unbound (table_in m) (get_or ws destination_task_word 0) e in false≢true (sym f ∙ bound)
 
-    module _ (i q : ℕ) (e : seat_of (table_in m) task ≡ Some (record { node = i; queue = q })) where
-      queue_is : q ≡ queue_of (table_in m) (get_or ws destination_task_word 0)
-      queue_is = (told_at (table_in m) (get_or ws destination_task_word 0) i q (rw et at e)).1.1
+  module _ (x : Seat) (e : seat_of (table_in m) (get_or ws destination_task_word 0) ≡ Some x) where
+    queue_is : x.queue ≡ queue_of (table_in m) (get_or ws destination_task_word 0)
+    queue_is = (told_at (table_in m) (get_or ws destination_task_word 0) x.node x.queue e).1.1
 
-      pub seat-small : q < 64
-      seat-small = omega (arith, queue_is, queue-small)
+    pub seat_small : x.queue < 64
+    seat_small = omega (arith, queue_is, queue-small)
 
-      pub seat-queue : {r : ℕ} → r ≡ task_at s q → r ≡ queue_for s j m c
-      seat-queue f = f ∙ ap (task_at s) queue_is
+    pub seat_queue : task_at s x.queue ≡ queue_for s j m c
+    seat_queue = ap (task_at s) queue_is

@@ -1,14 +1,13 @@
 // A node's stretch of the machine, lent to the functions on queues, blocks and letters.
 #![tactic(auto)]
 
-ghost use Rattle.std.specs.Prelude.{◌≡◌, ◌<◌, get_or};
+ghost use Rattle.std.specs.Prelude.{◌≡◌, ◌<◌};
 ghost use Rattle.layout.specs.Places.{node, with_node, room_at};
-ghost use Rattle.layout.specs.Numbers.{header_words};
 ghost use Rattle.blocks.specs.Moves.{taken, taken_answer, given_back};
 ghost use Rattle.queues.specs.Queue.{items, item_at};
 ghost use Rattle.queues.specs.Moves.{counted, appended, append_answer, dropped};
 ghost use Rattle.gaps.specs.Close.{task_appended, task_answer};
-ghost use Rattle.sound.specs.Letters.{told_length, words_from};
+ghost use Rattle.sound.specs.Letters.{told_length};
 ghost use Rattle.stages_keep.specs.Steps.{first_of, queue_for};
 ghost use Rattle.lending.specs.Asked.{
   Lent,
@@ -21,59 +20,42 @@ ghost use Rattle.lending.specs.Asked.{
   Addressed,
 };
 
-use queues::{Full, Kind};
+use queues::{Full, QueueAt};
 use settings::Settings;
 
-// Word k of the header of the letter that block b begins in node i.
-fn word_in(memory: &[u32], s: Settings, i: usize, b: u32, k: usize) -> u32
-    requires begins { Begins s memory.now i b }
-    requires k_lt_header_words { k < header_words }
-    ensures { result ≡ get_or (words_from s (node s memory.now i) b) k 0 }
-{
-    letters::word_of(layout::stretch(memory, s, i), s, b, k)
-}
-
 // The length that the letter begun by block b in node i tells.
+#[tactic(auto, using(crate::proofs::Lent::begins_lies, crate::proofs::Lent::begins_told))]
 pub fn length_of(memory: &[u32], s: Settings, i: usize, b: u32) -> usize
     requires { Begins s memory.now i b }
     ensures { result ≡ told_length s (node s memory.now i) b }
 {
-    word_in(memory, s, i, b, 4) as usize
-}
-
-// The first item of the queue at word q of node i.
-fn first_in(memory: &[u32], s: Settings, i: usize, k: Kind, q: usize) -> u32
-    requires { HasQueue s memory.now i k q }
-    ensures { result ≡ item_at k (node s memory.now i) q 0 }
-{
-    queues::item(layout::stretch(memory, s, i), k, q, 0)
+    letters::told_length(layout::stretch(memory, s, i), s, b) as usize
 }
 
 // The first item of send queue j on node i.
+#[tactic(auto, using(crate::proofs::Queues::first_item))]
 pub fn first_of(memory: &[u32], s: Settings, i: usize, j: usize) -> u32
     requires { HasFirst s memory.now i j }
     ensures { result ≡ first_of s j memory.now i }
 {
-    let q = layout::send_at(s, j);
-    first_in(memory, s, i, queues::send_kind(s), q)
+    QueueAt::send(s, j).item(layout::stretch(memory, s, i), 0)
 }
 
-// Puts an item behind the last of the queue at word q of node i.
+// Puts an item behind the last of a queue of node i.
 pub fn append_in(
     memory: &mut [u32],
     s: Settings,
     i: usize,
-    k: Kind,
-    q: usize,
+    queue: QueueAt,
     item: u32,
 ) -> Result<(), Full>
-    requires { HasQueue s memory.old i k q }
-    ensures { (memory.new ≡ with_node s memory.old i (appended k (node s memory.old i) q item)) × (result ≡ append_answer k (node s memory.old i) q) }
+    requires { HasQueue s memory.old i queue.kind queue.at }
+    ensures { (memory.new ≡ with_node s memory.old i (appended queue.kind (node s memory.old i) queue.at item)) × (result ≡ append_answer queue.kind (node s memory.old i) queue.at) }
 {
     let size = layout::node_size(s);
     let a = layout::node_at(s, i);
     let e = a + size;
-    queues::append(&mut memory[a..e], k, q, item)
+    queue.append(&mut memory[a..e], item)
 }
 
 // Puts an item behind the last of the task queue at word q of node i, closing its gaps first.
@@ -93,16 +75,16 @@ pub fn append_task(
     gaps::append(&mut memory[a..e], s, q, item)
 }
 
-// Drops the first item of the queue at word q of node i, and answers it.
-pub fn drop_in(memory: &mut [u32], s: Settings, i: usize, k: Kind, q: usize) -> u32
-    requires has_queue { HasQueue s memory.old i k q }
-    requires q_nonzero { 0 < items k (node s memory.old i) q }
-    ensures { (memory.new ≡ with_node s memory.old i (dropped k (node s memory.old i) q)) × (result ≡ item_at k (node s memory.old i) q 0) }
+// Drops the first item of a queue of node i, and answers it.
+pub fn drop_in(memory: &mut [u32], s: Settings, i: usize, queue: QueueAt) -> u32
+    requires has_queue { HasQueue s memory.old i queue.kind queue.at }
+    requires q_nonzero { 0 < items queue.kind (node s memory.old i) queue.at }
+    ensures { (memory.new ≡ with_node s memory.old i (dropped queue.kind (node s memory.old i) queue.at)) × (result ≡ item_at queue.kind (node s memory.old i) queue.at 0) }
 {
     let size = layout::node_size(s);
     let a = layout::node_at(s, i);
     let e = a + size;
-    queues::drop_first(&mut memory[a..e], k, q)
+    queue.drop_first(&mut memory[a..e])
 }
 
 // Takes n blocks in node j.
@@ -128,6 +110,7 @@ pub fn return_chain(memory: &mut [u32], s: Settings, j: usize, b: u32, n: usize)
 }
 
 // Node j's room count rises.
+#[tactic(auto, using(crate::proofs::Lent::lent_head))]
 pub fn count_room(memory: &mut [u32], s: Settings, j: usize)
     requires { Lent s memory.old j }
     ensures { memory.new ≡ with_node s memory.old j (counted (node s memory.old j) room_at) }
@@ -139,11 +122,12 @@ pub fn count_room(memory: &mut [u32], s: Settings, j: usize)
 }
 
 // The task queue in node j for the letter that block c begins there.
+#[tactic(auto, using(layout::proofs::Fits::nodes_fit, crate::proofs::Lent::begins_lies, crate::proofs::Lent::begins_word, crate::proofs::Queues::never_unbound, crate::proofs::Queues::seat_small, crate::proofs::Queues::seat_queue))]
 pub fn queue_for(memory: &[u32], s: Settings, j: usize, c: u32) -> usize
     requires { Addressed s memory.now j c }
     ensures { result ≡ queue_for s j memory.now c }
 {
-    let task = word_in(memory, s, j, c, 2);
+    let task = letters::word_of(layout::stretch(memory, s, j), s, c, 2);
     let Some(seat) = tasks::seat_of(layout::table(memory), task) else {
         unreachable!();
     };

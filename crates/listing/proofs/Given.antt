@@ -1,5 +1,5 @@
 -- What a sound memory gives to the functions that walk its letters. Assumes nothing.
-use mathlib.Core.Path.{◌≡◌, sym, ap, ap₂, ◌∙◌}
+use mathlib.Core.Path.{◌≡◌, sym, ap₂, ◌∙◌}
 use mathlib.Core.Bool.{true}
 use mathlib.Core.List.{List}
 use Prim.Native.Nat.{ℕ, ◌+◌, ◌-◌, ◌≤◌, ◌<◌}
@@ -9,7 +9,7 @@ use lib.ListN.{length, get_or}
 use borrow.Author.Tests.{eqb-true, ltb-true}
 use Rattle.words.proofs.Lists.{and-true}
 use Rattle.settings.specs.declared.Settings.{Settings}
-use Rattle.layout.specs.Places.{nodes, task_ids, task_queues, nodes_at, send_at, task_at, items_word, node}
+use Rattle.layout.specs.Places.{nodes, task_ids, task_queues, nodes_at, send_at, task_at, node}
 use Rattle.layout.specs.Numbers.{source_task_word, source_node_word, destination_task_word, destination_node_word}
 use Rattle.layout.specs.Asked.{Sized}
 use Rattle.layout.proofs.Fits.{nodes_fit}
@@ -18,6 +18,8 @@ use Rattle.tasks.specs.Table.{node_of, is_bound, right_table}
 use Rattle.tasks.proofs.Laws.{told_at, seat_below}
 use Rattle.tasks.specs.Seat.{seat_of}
 use Rattle.std.specs.Prelude.{Some}
+use Rattle.letters.specs.Letter.{word}
+use Rattle.letters.specs.Asked.{Lies}
 use Rattle.queues.specs.declared.Kind.{Kind}
 use Rattle.queues.specs.Queue.{send_kind, task_kind, items, item_at, Queue}
 use Rattle.queues.proofs.Views.{length-contents, contents_item}
@@ -29,6 +31,7 @@ use Rattle.sound.proofs.Held.{Right, send_right, task_right}
 use Rattle.showing.specs.declared.Shown.{Shown}
 use Rattle.showing.specs.List.{word_in, shown}
 use Rattle.showing.specs.Asked.{Begins}
+use Rattle.showing.proofs.Given.{begins-lies, begins-word}
 use Rattle.listing.specs.Asked.{Asked}
 
 -- ---- a task that is bound on node k
@@ -121,58 +124,59 @@ module _ (s : Settings) (memory : List ℕ) (a : Asked s memory) where
           right : c < length (task_items s memory i q) → (get_or (task_items s memory i q) c 0 ≡ 0 → ⊥) → Right s (node s memory i) (table_in memory) i (13 + q) (get_or (task_items s memory i q) c 0)
           right d z = rw a.is (task_right memory a.holds i h q g c (rw a.is at d) (rw a.is at z))
 
--- ---- a queue of node i as the code reads it: its kind and its word in the stretch, as computed, and its number of items
-pub record Read (s : Settings) (memory : List ℕ) (i : ℕ) (kind : Kind) (word : ℕ) (k : Kind) (q count : ℕ) : Type 0 where
+-- ---- a queue of node i as the code reads it: the node's stretch, the queue's kind and its word there, and its number of items
+pub record Read (s : Settings) (memory : List ℕ) (i : ℕ) (kind : Kind) (word : ℕ) (v : List ℕ) (k : Kind) (q count : ℕ) : Type 0 where
+  pub asked : Asked s memory
+  pub there : i < nodes
+  pub own : v ≡ node s memory i
   pub is : k ≡ kind
   pub stands : q ≡ word
-  pub queue : Queue k (node s memory i) q
-  pub many : count ≡ items kind (node s memory i) word
+  pub queue : Queue k v q
+  pub many : count ≡ items k v q
 
-module _ {s : Settings} {memory : List ℕ} {i : ℕ} {kind : Kind} {word : ℕ} {k : Kind} {q count : ℕ} (r : Read s memory i kind word k q count) where
-  pub read_place : (c : ℕ) → c < count → (c < k.slots) × (c < 255)
-  read_place c l =
-      let n : count ≡ items k (node s memory i) q = r.many ∙ ap₂ (λ (x : Kind) (y : ℕ). items x (node s memory i) y) (sym r.is) (sym r.stands) in
-      (omega (arith, r.queue.count), omega (arith, r.queue.count, r.queue.placed.small))
+module _ {s : Settings} {memory : List ℕ} {i : ℕ} {kind : Kind} {word : ℕ} {v : List ℕ} {k : Kind} {q count : ℕ} (r : Read s memory i kind word v k q count) where
+  pub read-small : (c : ℕ) → c < count → c < 255
+  read-small c l = omega (arith, r.many, r.queue.count, r.queue.placed.small)
 
-  pub read_item : (c b : ℕ) → b ≡ item_at k (node s memory i) q c → b ≡ item_at kind (node s memory i) word c
-  read_item c b e = e ∙ ap₂ (λ (x : Kind) (y : ℕ). item_at x (node s memory i) y c) r.is r.stands
+  pub read_item : (c b : ℕ) → b ≡ item_at k v q c → b ≡ item_at kind (node s memory i) word c
+  read_item c b e = rw (r.own, r.is, r.stands) at e
 
-module _ (s : Settings) (memory : List ℕ) (a : Asked s memory) (i : ℕ) (h : i < nodes) where
-  abbrev stretch : List ℕ
-  stretch = node s memory i
+  pub read-many : count ≡ items kind (node s memory i) word
+  read-many = r.many ∙ ap₂ (λ (x : List ℕ) (y : ℕ). items kind x y) r.own r.stands
 
-  read : (kind : Kind) (word : ℕ) → Queue kind stretch word → (k : Kind) (q count : ℕ) → k ≡ kind → q ≡ word → count ≡ items k stretch q → Read s memory i kind word k q count
-  read kind word u k q count ek eq e =
-      record {
-        is = ek;
-        stands = eq;
-        queue = rw (ek, eq) u;
-        many = e ∙ ap (λ (x : ℕ). get_or stretch (x + items_word) 0) eq;
-      }
+module _ (s : Settings) (memory : List ℕ) (a : Asked s memory) (i : ℕ) (h : i < nodes) {v : List ℕ} {k : Kind} {at : ℕ} (ev : v ≡ node s memory i) where
+  module _ (q : ℕ) (g : q < task_queues) (ek : k ≡ task_kind s) (eq : at ≡ task_at s q) where
+    pub task_queue : Queue k v at
+    task_queue = rw (ev, ek, eq) (asked_task s memory a i h q g)
 
-  module _ (q : ℕ) (g : q < task_queues) {k : Kind} {at : ℕ} (ek : k ≡ task_kind s) (eq : at ≡ task_at s q) where
-    pub task_queue : Queue k stretch at
-    task_queue = rw (ek, eq) (asked_task s memory a i h q g)
+    pub read_task : (count : ℕ) → count ≡ items k v at → Read s memory i (task_kind s) (task_at s q) v k at count
+    read_task count e = record { asked = a; there = h; own = ev; is = ek; stands = eq; queue = task_queue; many = e }
 
-    pub read_task : (count : ℕ) → count ≡ items k stretch at → Read s memory i (task_kind s) (task_at s q) k at count
-    read_task count e = read (task_kind s) (task_at s q) (asked_task s memory a i h q g) k at count ek eq e
+  module _ (j : ℕ) (g : j < nodes) (ek : k ≡ send_kind s) (eq : at ≡ send_at s j) where
+    pub send-queue : Queue k v at
+    send-queue = rw (ev, ek, eq) (asked-send s memory a i h j g)
 
-  module _ (j : ℕ) (g : j < nodes) {k : Kind} {at : ℕ} (ek : k ≡ send_kind s) (eq : at ≡ send_at s j) where
-    pub send-queue : Queue k stretch at
-    send-queue = rw (ek, eq) (asked-send s memory a i h j g)
+    pub read_send : (count : ℕ) → count ≡ items k v at → Read s memory i (send_kind s) (send_at s j) v k at count
+    read_send count e = record { asked = a; there = h; own = ev; is = ek; stands = eq; queue = send-queue; many = e }
 
-    pub read_send : (count : ℕ) → count ≡ items k stretch at → Read s memory i (send_kind s) (send_at s j) k at count
-    read_send count e = read (send_kind s) (send_at s j) (asked-send s memory a i h j g) k at count ek eq e
+-- ---- an item of it
+module _ {s : Settings} {memory : List ℕ} {i : ℕ} {v : List ℕ} {k : Kind} {at count : ℕ} where
+  pub kept-begins : {q : ℕ} → Read s memory i (task_kind s) (task_at s q) v k at count → q < task_queues → (c b : ℕ) → c < count → b ≡ item_at k v at c → (b ≡ 0 → ⊥)
+      → Begins s memory i b
+  kept-begins {q} r g c b l e n =
+      let f = read_item r c b e in
+      rw f (asked-kept s memory r.asked i r.there q g c (omega (arith, read-many r)) (λ z. n (f ∙ z)))
 
-  module _ (q : ℕ) (g : q < task_queues) {k : Kind} {at count : ℕ} where
-    pub kept-begins : Read s memory i (task_kind s) (task_at s q) k at count → (c b : ℕ) → c < count → b ≡ item_at k stretch at c → (b ≡ 0 → ⊥) → Begins s memory i b
-    kept-begins r c b l e n =
-        let f = read_item r c b e in
-        rw f (asked-kept s memory a i h q g c (omega (arith, r.many)) (λ z. n (f ∙ z)))
+  module _ {j : ℕ} (r : Read s memory i (send_kind s) (send_at s j) v k at count) (g : j < nodes) (c b : ℕ) (l : c < count) (e : b ≡ item_at k v at c) where
+    pub sent-begins : Begins s memory i b
+    sent-begins = rw (read_item r c b e) (asked-sent s memory r.asked i r.there j g c (omega (arith, read-many r)))
 
-  module _ (j : ℕ) (g : j < nodes) {k : Kind} {at count : ℕ} (r : Read s memory i (send_kind s) (send_at s j) k at count) where
-    pub sent-begins : (c b : ℕ) → c < count → b ≡ item_at k stretch at c → Begins s memory i b
-    sent-begins c b l e = rw (read_item r c b e) (asked-sent s memory a i h j g c (omega (arith, r.many)))
+    pub sent-lies : Lies s v (destination_task_word + 1) b
+    sent-lies = begins-lies s memory i b sent-begins v r.own 3 (omega arith)
 
-    pub sent-named : (c b : ℕ) → c < count → b ≡ item_at k stretch at c → (d : ℕ) → d ≡ word_in s memory i b destination_task_word → d < task_ids
-    sent-named c b l e d n = rw (n, read_item r c b e) (named_id (table_in memory) j _ (asked-named s memory a i h j g c (omega (arith, r.many))))
+    module _ (d : ℕ) (n : d ≡ word s v b destination_task_word) where
+      pub sent-task : d ≡ word_in s memory i b destination_task_word
+      sent-task = n ∙ begins-word s memory i b sent-begins v r.own destination_task_word (omega arith)
+
+      pub sent-named : d < task_ids
+      sent-named = rw (sent-task, read_item r c b e) (named_id (table_in memory) j _ (asked-named s memory r.asked i r.there j g c (omega (arith, read-many r))))

@@ -1,13 +1,13 @@
--- Letters laid: six words each, and one letter in out, with room for it and with none. Assumes nothing.
+-- Letters laid: six words each, and one letter in out. Assumes nothing.
 use mathlib.Core.Path.{◌≡◌, refl, sym, ap, ◌∙◌}
 use mathlib.Core.List.{List, [], ◌∷◌, ◌++◌, append_assoc}
-use Prim.Native.Nat.{ℕ, ◌+◌, ◌-◌, ◌*◌, ◌≤◌, ◌<◌}
+use Prim.Native.Nat.{ℕ, ◌+◌, ◌-◌, ◌*◌, ◌≤◌}
 use native.Mathlib.Omega.{arith}
 use lib.Dec.{leb}
 use lib.ListN.{length, take, drop}
 use lib.Seq.{sets, sets-eq, length-sets}
 use borrow.Rule.Slice.PartMut.{put_mid}
-use borrow.Author.Tests.{le-leb, lt-leb}
+use borrow.Author.Tests.{le-leb}
 use Rattle.words.proofs.Lists.{both}
 use Rattle.words.proofs.Parts.{back}
 use Rattle.layout.specs.Numbers.{list_words}
@@ -41,10 +41,6 @@ module _ (x : Shown) (n : ℕ) (out : List ℕ) where
   pub letter-room : n * list_words + list_words ≤ length out → sets out (n * list_words) (laid_out (x ∷ [])) ≡ laid_at x n out
   unfolding laid_at
   letter-room h = rw (le-leb (n * list_words + list_words) (length out) h)
-
-  pub letter_none : length out < n * list_words + list_words → out ≡ laid_at x n out
-  unfolding laid_at
-  letter_none h = rw (lt-leb (n * list_words + list_words) (length out) h)
 
   pub length_at : length (laid_at x n out) ≡ length out
   unfolding laid_at

@@ -1,6 +1,6 @@
 -- Letters placed step by step: of one item more, of one task more, of one send queue more. Assumes nothing.
 use mathlib.Core.Path.{◌≡◌, refl, sym, ap, ◌∙◌}
-use mathlib.Core.Bool.{true, false}
+use mathlib.Core.Bool.{true}
 use mathlib.Core.List.{List, [], ◌∷◌, ◌++◌}
 use Prim.Native.Nat.{ℕ, ◌+◌, ◌-◌, ◌*◌, ◌/◌, ◌%◌, ◌≤◌}
 use native.Mathlib.Nat.{zero-add}
@@ -27,22 +27,9 @@ run_one k w q f n c b h e = run_more k w q f n ∙ ap (λ (z : ℕ). run k w q f
 
 module _ (s : Settings) (memory : List ℕ) where
   -- ---- none yet
-  module _ (r : Rows) where
-    pub kept_start : (task i : ℕ) (k : Kind) (w : List ℕ) (q : ℕ) → r ≡ placed (from_task s memory task i (live (run k w q 0 0))) r
-    unfolding from_task live run placed
-    kept_start task i k w q = refl
-
-    pub tasks_start : r ≡ placed (kept_below s memory 0) r
-    unfolding kept_below placed
-    tasks_start = refl
-
-    pub sent_start : (j : ℕ) (k : Kind) (w : List ℕ) (q f : ℕ) → r ≡ placed (sent_from s memory j (run k w q f (f - f))) r
-    unfolding sent_from placed run
-    sent_start j k w q f = let e : f - f ≡ 0 = omega arith in rw e
-
-    pub queues_start : r ≡ placed (sent_below s memory 0) r
-    unfolding sent_below placed
-    queues_start = refl
+  pub sent_start : (r : Rows) (j : ℕ) (k : Kind) (w : List ℕ) (q f : ℕ) → r ≡ placed (sent_from s memory j (run k w q f (f - f))) r
+  unfolding sent_from placed run
+  sent_start r j k w q f = let e : f - f ≡ 0 = omega arith in rw e
 
   task_append : (task i : ℕ) (xs ys : List ℕ) → from_task s memory task i (xs ++ ys) ≡ from_task s memory task i xs ++ from_task s memory task i ys
   unfolding from_task
@@ -94,10 +81,6 @@ module _ (s : Settings) (memory : List ℕ) where
 
   -- ---- a task's queue, where it has one
   module _ (task : ℕ) (start : Rows) where
-    pub task_none : is_bound (table_in memory) task ≡ false → start ≡ placed (kept_of s memory task) start
-    unfolding kept_of placed
-    task_none e = rw e
-
     pub task_all : (i q : ℕ) (end : Rows) → is_bound (table_in memory) task ≡ true → i ≡ node_of (table_in memory) task → q ≡ queue_of (table_in memory) task
         → end ≡ placed (from_task s memory task i (live (task_items s memory i q))) start → end ≡ placed (kept_of s memory task) start
     unfolding kept_of

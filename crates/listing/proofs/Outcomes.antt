@@ -1,7 +1,7 @@
--- The outcome of a list: of a memory that is not sound, and of a sound one by whether out has room. Assumes nothing.
+-- The outcome of a list of a sound memory, by whether out has room. Assumes nothing.
 use Rattle.std.specs.Prelude.{Err, Ok, Result}
 use mathlib.Core.Path.{◌≡◌, refl, ap, ◌∙◌}
-use mathlib.Core.Bool.{true, false}
+use mathlib.Core.Bool.{true}
 use mathlib.Core.List.{List, [], ◌∷◌, ◌++◌}
 use mathlib.Core.Logic.{⊎_elim}
 use Prim.Native.Nat.{ℕ, zero, suc, ◌+◌, ◌*◌, ◌≤◌, ◌<◌}
@@ -20,24 +20,19 @@ use Rattle.showing.specs.declared.Shown.{Shown}
 use Rattle.showing.specs.List.{listed, laid_out}
 use Rattle.listing.specs.declared.Listed.{Listed}
 use Rattle.listing.specs.declared.ListRefusal.{ListRefusal}
-use Rattle.listing.specs.declared.ListRefusal.TheVariants.{NotSound, OutTooShort}
+use Rattle.listing.specs.declared.ListRefusal.TheVariants.{OutTooShort}
 use Rattle.listing.specs.Asked.{Asked, Rows, placed, Low, every_letter, numbers, Ranked}
 use Rattle.listing.specs.Outcome.{Outcome, list}
 use Rattle.listing.proofs.Given.{asked-long}
 use Rattle.listing.proofs.Few.{few-letters}
-use Rattle.listing.proofs.Placing.{rows, length_for, so_long, so_ranked, so_rank}
+use Rattle.listing.proofs.Placing.{rows, length_for, so_long, so_rank}
 use Rattle.listing.proofs.Spread.{sorted, spread, spread_none, all_stand}
 use Rattle.listing.proofs.ByTask.{sorted_tasks, ids_all}
 
 abbrev leaving : Result Listed ListRefusal → List ℕ → Outcome
 leaving a l = record { answer = a; out = l }
 
--- a memory that is not sound is refused, and nothing changes
-pub not_sound_lem : (memory out : List ℕ) → sound memory ≡ false → leaving (Err NotSound) out ≡ list memory out
-unfolding list
-not_sound_lem memory out e = rw e
-
-pub asked : (s : Settings) (memory : List ℕ) → sound memory ≡ true → s ≡ settings_in memory → Asked s memory
+asked : (s : Settings) (memory : List ℕ) → sound memory ≡ true → s ≡ settings_in memory → Asked s memory
 asked s memory e q = record { holds = e; is = q }
 
 pub sound-long : (memory : List ℕ) → sound memory ≡ true → 5 ≤ length memory
@@ -82,9 +77,6 @@ module _ (s : Settings) (memory : List ℕ) (e : sound memory ≡ true) (q : s �
 
   -- ---- the letters are counted, by a walk that is lent no room
   module _ (row l : List ℕ) (counted : rows row l ≡ placed all (rows zeroes [])) where
-    pub row-long : length row ≡ task_ids
-    row-long = so_ranked all zeroes [] row l counted ∙ zeroes-long
-
     same : (out : List ℕ) → l ++ out ≡ out
     same out = none_before l out (so_long all zeroes [] row l counted)
 

@@ -12,6 +12,7 @@ ghost use Rattle.listing.specs.Asked.{Asked, laid_at, placed, Low, kept_of, kept
 ghost use Rattle.listing.specs.Outcome.{told, list};
 
 use answers::Answer;
+use queues::QueueAt;
 use settings::Settings;
 use showing::Shown;
 
@@ -60,6 +61,7 @@ impl From<ListRefusal> for Answer {
 }
 
 // The six words of a letter behind n letters in out, where out has room for them.
+#[tactic(auto, unfolding(crate::specs::Asked::laid_at))]
 fn lay(out: &mut [u32], n: u32, x: Shown)
     ensures { out.new ≡ laid_at x n out.old }
 {
@@ -71,6 +73,7 @@ fn lay(out: &mut [u32], n: u32, x: Shown)
 }
 
 // A letter at its task's rank, which rises by one.
+#[tactic(auto, unfolding(crate::specs::Asked::placed))]
 fn list_letter(x: Shown, ranks: &mut [u32; 256], out: &mut [u32])
     requires destination_lt_task_ids { x.destination < task_ids }
     requires low { Low ranks.old 1 }
@@ -98,11 +101,10 @@ fn list_task_queue(
     requires low { Low ranks.old 255 }
     ensures { record { ranks = ranks.new; out = out.new } ≡ placed (from_task s memory.now task i (live (task_items s memory.now i q))) (record { ranks = ranks.old; out = out.old }) }
 {
-    let k = queues::task_kind(s);
-    let at = layout::task_at(s, q as usize);
-    let count = showing::count_in(memory, s, i, k, at);
-    for c in 0..count {
-        let b = showing::item_in(memory, s, i, k, at, c);
+    let node = layout::stretch(memory, s, i as usize);
+    let queue = QueueAt::task(s, q as usize);
+    for c in 0..queue.items(node) {
+        let b = queue.item(node, c);
         if b != 0 {
             let x = showing::shown_at(memory, s, task, 1, i, b);
             list_letter(x, ranks, out);
@@ -124,6 +126,7 @@ fn list_task(memory: &[u32], s: Settings, task: u32, ranks: &mut [u32; 256], out
 }
 
 // The letters of all tasks' queues, task by task.
+#[tactic(auto, unfolding(crate::specs::Asked::kept_below, crate::specs::Asked::placed))]
 fn list_tasks(memory: &[u32], s: Settings, ranks: &mut [u32; 256], out: &mut [u32])
     requires asked { Asked s memory.now }
     requires low { Low ranks.old (task_ids * 255) }
@@ -148,19 +151,19 @@ fn list_send_queue(
     requires low { Low ranks.old 255 }
     ensures { record { ranks = ranks.new; out = out.new } ≡ placed (sent_from s memory.now j (waiting s memory.now i j)) (record { ranks = ranks.old; out = out.old }) }
 {
-    let k = queues::send_kind(s);
-    let at = layout::send_at(s, i as usize);
-    let count = showing::count_in(memory, s, j, k, at);
+    let node = layout::stretch(memory, s, j as usize);
+    let queue = QueueAt::send(s, i as usize);
     let first = showing::left_out(memory, i, j);
-    for c in first..count {
-        let b = showing::item_in(memory, s, j, k, at, c);
-        let task = showing::word_in(memory, s, j, b, 2);
+    for c in first..queue.items(node) {
+        let b = queue.item(node, c);
+        let task = letters::word_of(node, s, b, 2);
         let x = showing::shown_at(memory, s, task, 2, j, b);
         list_letter(x, ranks, out);
     }
 }
 
 // The letters that wait in all send queues: for node 0 in nodes 0 to 5, then for node 1, and so on.
+#[tactic(auto, unfolding(crate::specs::Asked::sent_below, crate::specs::Asked::placed))]
 fn list_nodes(memory: &[u32], s: Settings, ranks: &mut [u32; 256], out: &mut [u32])
     requires asked { Asked s memory.now }
     requires low { Low ranks.old (nodes * nodes * 255) }
@@ -202,6 +205,7 @@ fn list_sound(memory: &[u32], out: &mut [u32]) -> Result<Listed, ListRefusal>
     ensures { record { answer = result; out = out.new } ≡ list memory.now out.old }
 {
     let s = sound::settings_in(memory);
+    // in fixed memory, and beside out: a struct of both would lend out twice, no plainer
     let mut ranks = [0u32; 256];
     list_letters(memory, s, &mut ranks, &mut out[0..0]);
     let letters = add_up(&mut ranks);
@@ -213,6 +217,7 @@ fn list_sound(memory: &[u32], out: &mut [u32]) -> Result<Listed, ListRefusal>
 }
 
 // List, for any memory and any out.
+#[tactic(auto, unfolding(crate::specs::Outcome::list))]
 pub fn list(memory: &[u32], out: &mut [u32]) -> Result<Listed, ListRefusal>
     ensures { record { answer = result; out = out.new } ≡ list memory.now out.old }
 {

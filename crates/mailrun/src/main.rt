@@ -1,15 +1,14 @@
 // The program: plays records of 8 bytes from standard input and prints a line for each.
 #![tactic(auto)]
 
-ghost use Rattle.std.specs.Prelude.{◌≡◌, ◌≤◌, ◌<◌, length, get_or};
+ghost use Rattle.std.specs.Prelude.{◌≡◌, ◌<◌, length, get_or};
 ghost use Rattle.mailrun.specs.Program.{word_from, sent, received, played};
 
 use answers::Answer;
 use std::io;
 
 // f: the last four bytes of a record, low byte first.
-fn word_from(bytes: &[u8]) -> u32
-    requires { length bytes.now ≡ 8 }
+fn word_from(bytes: &[u8; 8]) -> u32
     ensures { result ≡ word_from bytes.now }
 {
     u32::from_le_bytes([bytes[4], bytes[5], bytes[6], bytes[7]])
@@ -17,9 +16,8 @@ fn word_from(bytes: &[u8]) -> u32
 
 // Sends from the first task to the second; the body fills a side row of its length.
 #[tactic(auto, unfolding(crate::specs::Program::sent))]
-fn send_through(memory: &mut [u32], bytes: &[u8], side: &mut [u32]) -> Answer
-    requires bytes_len { length bytes.now ≡ 8 }
-    requires side_len { length side.old ≡ get_or bytes.now 3 0 }
+fn send_through(memory: &mut [u32], bytes: &[u8; 8], side: &mut [u32]) -> Answer
+    requires { length side.old ≡ get_or bytes.now 3 0 }
     ensures { record { answer = result; memory = memory.new } ≡ sent memory.old bytes.now }
 {
     script::fill(side, word_from(bytes));
@@ -27,8 +25,7 @@ fn send_through(memory: &mut [u32], bytes: &[u8], side: &mut [u32]) -> Answer
 }
 
 // Kind 1: first task, second task, body length, f.
-fn play_send(memory: &mut [u32], bytes: &[u8]) -> Answer
-    requires { length bytes.now ≡ 8 }
+fn play_send(memory: &mut [u32], bytes: &[u8; 8]) -> Answer
     ensures { record { answer = result; memory = memory.new } ≡ sent memory.old bytes.now }
 {
     let mut side = [0; 255];
@@ -36,8 +33,7 @@ fn play_send(memory: &mut [u32], bytes: &[u8]) -> Answer
 }
 
 // Kind 2: first task, second task; the third value is the body's first word.
-fn play_receive(memory: &mut [u32], bytes: &[u8]) -> Answer
-    requires { length bytes.now ≡ 8 }
+fn play_receive(memory: &mut [u32], bytes: &[u8; 8]) -> Answer
     ensures { record { answer = result; memory = memory.new } ≡ received memory.old bytes.now }
 {
     let mut out = [0; 255];
@@ -53,9 +49,10 @@ fn play_receive(memory: &mut [u32], bytes: &[u8]) -> Answer
 fn play(memory: &mut [u32], bytes: &[u8]) -> Answer
     ensures { record { answer = result; memory = memory.new } ≡ played memory.old bytes.now }
 {
-    if bytes.len() != 8 {
+    let Ok(bytes) = <&[u8; 8]>::try_from(bytes) else {
         return answers::bare(12);
-    }
+    };
+    // one match on the byte: an enum of kinds would be made by one match and taken apart by another, no plainer
     match bytes[0] {
         1 => play_send(memory, bytes),
         2 => play_receive(memory, bytes),
@@ -85,20 +82,19 @@ fn step<R: io::Read>(
     Ok(true)
 }
 
-// No task is bound.
-fn unbind(table: &mut [u32]) {
-    for (i, word) in table.iter_mut().enumerate() {
-        *word = if i % 2 == 0 { 255 } else { 0 };
-    }
-}
-
 // Binds a task to a node and a queue.
-fn bind(table: &mut [u32], task: usize, node: u32, queue: u32)
-    requires table_len { length table.old ≡ 512 }
-    requires task_bound { task < 256 }
+fn bind(table: &mut [u32; 512], task: usize, node: u32, queue: u32)
+    requires { task < 256 }
 {
     table[2 * task] = node;
     table[2 * task + 1] = queue;
+}
+
+// No task is bound: each has 255, 0.
+fn unbind(table: &mut [u32; 512]) {
+    for task in 0..256 {
+        bind(table, task, 255, 0);
+    }
 }
 
 fn main(rt: HostRuntime) -> io::Result<()> {

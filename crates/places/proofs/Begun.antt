@@ -54,7 +54,7 @@ module _ (s : Settings) (memory : List ℕ) (i p : ℕ) (asks : Asks) (h : (ws :
 -- what was judged through parts that were lent
 pub judged_lent : (s : Settings) (memory : List ℕ) (i : ℕ) (x : Place) (l t queue : List ℕ) → l ≡ node s memory i → t ≡ table_in memory → queue ≡ node s memory x.holder
     → (marks : List ℕ) (r : Bool) (new : List ℕ)
-    → Judged (letters_right s l t x.asks marks (live (contents x.kind queue x.at))) (marked marks (chains s l (live (contents x.kind queue x.at)))) r new
+    → Judged (letters_right s l t x.asks marks (live (contents x.queue.kind queue x.queue.at))) (marked marks (chains s l (live (contents x.queue.kind queue x.queue.at)))) r new
     → Judged (letters_right s (node s memory i) (table_in memory) x.asks marks (begun_at s memory x)) (marked marks (chains s (node s memory i) (begun_at s memory x))) r new
 judged_lent s memory i x l t queue el et eq marks r new v = rw (el, et, eq) at v
 
@@ -99,7 +99,7 @@ pub record At (s : Settings) (memory : List ℕ) (i p : ℕ) (x : Place) : Type 
   pub asked : (ws : List ℕ) → meets x.asks ws ≡ right_place (table_in memory) i p ws
 
 module _ (s : Settings) (memory : List ℕ) (i : ℕ) (g : Looked s memory) (small : i < nodes) (p : ℕ) where
-  send-place : 1 ≤ p → p < 7 → At s memory i p (record { holder = i; kind = send_kind s; at = send_at s (p - 1); asks = Between i (p - 1) })
+  send-place : 1 ≤ p → p < 7 → At s memory i p (record { holder = i; queue = record { kind = send_kind s; at = send_at s (p - 1) }; asks = Between i (p - 1) })
   unfolding begun is_asked right_place
   send-place q h =
       let k : p - 1 < nodes = omega arith in
@@ -110,7 +110,7 @@ module _ (s : Settings) (memory : List ℕ) (i : ℕ) (g : Looked s memory) (sma
         asked = λ ws. sym (by-send p true (from_to i (p - 1) ws) (from_to i (p - 7) ws) (eqb (get_or ws 2 0) (task_of (table_in memory) i (p - 13))) true q h);
       }
 
-  ack_place : 7 ≤ p → p < 13 → At s memory i p (record { holder = p - 7; kind = ack_kind s; at = ack_at s i; asks = Between i (p - 7) })
+  ack_place : 7 ≤ p → p < 13 → At s memory i p (record { holder = p - 7; queue = record { kind = ack_kind s; at = ack_at s i }; asks = Between i (p - 7) })
   unfolding begun is_asked right_place
   ack_place q h =
       let j : p - 7 < nodes = omega arith in
@@ -122,7 +122,7 @@ module _ (s : Settings) (memory : List ℕ) (i : ℕ) (g : Looked s memory) (sma
       }
 
   module _ (row : List ℕ) (seats : Seats (table_in memory) row) where
-    task_place : 13 ≤ p → p < 77 → At s memory i p (record { holder = i; kind = task_kind s; at = task_at s (p - 13); asks = To (get_or row (seat_at i (p - 13)) 0) })
+    task_place : 13 ≤ p → p < 77 → At s memory i p (record { holder = i; queue = record { kind = task_kind s; at = task_at s (p - 13) }; asks = To (get_or row (seat_at i (p - 13)) 0) })
     unfolding begun is_asked right_place
     task_place h e =
         let q : p - 13 < task_queues = omega arith in
@@ -134,9 +134,9 @@ module _ (s : Settings) (memory : List ℕ) (i : ℕ) (g : Looked s memory) (sma
         }
 
     pub place_is : 1 ≤ p → p < 77 → (x : Place)
-        → (p < 7 → x ≡ record { holder = i; kind = send_kind s; at = send_at s (p - 1); asks = Between i (p - 1) })
-        → (7 ≤ p → p < 13 → x ≡ record { holder = p - 7; kind = ack_kind s; at = ack_at s i; asks = Between i (p - 7) })
-        → (13 ≤ p → x ≡ record { holder = i; kind = task_kind s; at = task_at s (p - 13); asks = To (get_or row (seat_at i (p - 13)) 0) })
+        → (p < 7 → x ≡ record { holder = i; queue = record { kind = send_kind s; at = send_at s (p - 1) }; asks = Between i (p - 1) })
+        → (7 ≤ p → p < 13 → x ≡ record { holder = p - 7; queue = record { kind = ack_kind s; at = ack_at s i }; asks = Between i (p - 7) })
+        → (13 ≤ p → x ≡ record { holder = i; queue = record { kind = task_kind s; at = task_at s (p - 13) }; asks = To (get_or row (seat_at i (p - 13)) 0) })
         → At s memory i p x
     place_is q e x sends acks tasks =
         ⊎_elim (λ h. ⊎_elim (λ f. rw (tasks f) (task_place f e)) (λ f. rw (acks h f) (ack_place h f)) (le_or_lt 13 p))

@@ -39,12 +39,12 @@ pub record Node (s : Settings) (memory row : List ℕ) (i : ℕ) : Type 0 where
 
 -- the first blocks of the letters that stand there
 abbrev pub begun_at : Settings → List ℕ → Place → List ℕ
-begun_at s memory x = live (contents x.kind (node s memory x.holder) x.at)
+begun_at s memory x = live (contents x.queue.kind (node s memory x.holder) x.queue.at)
 
 -- its queue may be gone over
 pub record Stands (s : Settings) (memory : List ℕ) (x : Place) : Type 0 where
   pub there : x.holder < nodes
-  pub queue : Queue x.kind (node s memory x.holder) x.at
+  pub queue : Queue x.queue.kind (node s memory x.holder) x.queue.at
 
 -- the free list ends well, and none of its blocks has a mark
 unfoldable pub free_right : Settings → List ℕ → List ℕ → Bool

@@ -26,16 +26,15 @@ ghost use Rattle.places.specs.Given.{
   all_marked,
 };
 
-use queues::Kind;
+use queues::QueueAt;
 use settings::Settings;
 use visits::Asks;
 
-// Where the letters of a place stand: on which node, in what kind of queue, from which word of the stretch on; and what the place asks of their headers.
+// Where the letters of a place stand: on which node, in which queue; and what the place asks of their headers.
 #[derive(Clone, Copy, Debug, PartialEq, Eq)]
 pub struct Place {
     pub holder: usize,
-    pub kind: Kind,
-    pub at: usize,
+    pub queue: QueueAt,
     pub asks: Asks,
 }
 
@@ -67,10 +66,9 @@ fn are_right_letters(
     requires stands { Stands s memory.now place }
     ensures { Judged (letters_right s (node s memory.now i) (table_in memory.now) place.asks marks.old (begun_at s memory.now place)) (marked marks.old (chains s (node s memory.now i) (begun_at s memory.now place))) result marks.new }
 {
-    let k = place.kind;
-    let q = place.at;
-    let queue = layout::stretch(memory, s, place.holder);
-    let count = queues::items_of(queue, k, q);
+    let queue = place.queue;
+    let holding = layout::stretch(memory, s, place.holder);
+    let count = queue.items(holding);
     if count == 0 {
         return true;
     }
@@ -78,7 +76,7 @@ fn are_right_letters(
     let table = layout::table(memory);
     let asks = place.asks;
     for c in 0..count {
-        let b = queues::item(queue, k, q, c);
+        let b = queue.item(holding, c);
         if !visits::is_right_letter(stretch, s, table, marks, asks, b) {
             return false;
         }
@@ -91,27 +89,24 @@ fn place_at(s: Settings, seats: &[u8; 384], i: usize, p: usize) -> Place
     requires in_range { InRange s }
     requires i_lt_nodes { i < nodes }
     requires p_bounds { (1 ≤ p) × (p < 77) }
-    ensures sends { p < 7 → result ≡ record { holder = i; kind = send_kind s; at = send_at s (p - 1); asks = Between i (p - 1) } }
-    ensures acks { 7 ≤ p → p < 13 → result ≡ record { holder = p - 7; kind = ack_kind s; at = ack_at s i; asks = Between i (p - 7) } }
-    ensures tasks { 13 ≤ p → result ≡ record { holder = i; kind = task_kind s; at = task_at s (p - 13); asks = To (get_or seats.now (seat_at i (p - 13)) 0) } }
+    ensures sends { p < 7 → result ≡ record { holder = i; queue = record { kind = send_kind s; at = send_at s (p - 1) }; asks = Between i (p - 1) } }
+    ensures acks { 7 ≤ p → p < 13 → result ≡ record { holder = p - 7; queue = record { kind = ack_kind s; at = ack_at s i }; asks = Between i (p - 7) } }
+    ensures tasks { 13 ≤ p → result ≡ record { holder = i; queue = record { kind = task_kind s; at = task_at s (p - 13) }; asks = To (get_or seats.now (seat_at i (p - 13)) 0) } }
 {
     match p {
         1..=6 => Place {
             holder: i,
-            kind: queues::send_kind(s),
-            at: layout::send_at(s, p - 1),
+            queue: QueueAt::send(s, p - 1),
             asks: Asks::Between(i as u32, p as u32 - 1),
         },
         7..=12 => Place {
             holder: p - 7,
-            kind: queues::ack_kind(s),
-            at: layout::ack_at(s, i),
+            queue: QueueAt::ack(s, i),
             asks: Asks::Between(i as u32, p as u32 - 7),
         },
         _ => Place {
             holder: i,
-            kind: queues::task_kind(s),
-            at: layout::task_at(s, p - 13),
+            queue: QueueAt::task(s, p - 13),
             asks: Asks::To(u32::from(seats[i * 64 + p - 13])),
         },
     }
@@ -163,6 +158,7 @@ pub fn is_right_node(memory: &[u32], s: Settings, seats: &[u8; 384], i: usize) -
     requires i_lt_nodes { i < nodes }
     ensures { result ≡ (each_once s memory.now i && right_letters s memory.now i) }
 {
+    // a mark for each block, in fixed memory: there is no heap
     let mut marks = [0u8; 1025];
     is_right_free(layout::stretch(memory, s, i), s, &mut marks)
         && are_right_places(memory, s, seats, &mut marks, i)

@@ -1,6 +1,7 @@
 -- Whether the free list has the blocks and the goal takes one more, by the tests on the way. Assumes nothing.
-use mathlib.Core.Path.{◌≡◌, sym, ◌∙◌}
-use mathlib.Core.Bool.{Bool, true, not}
+use Rattle.std.specs.Prelude.{Option, is_some}
+use mathlib.Core.Path.{◌≡◌, refl, sym, ap, ◌∙◌}
+use mathlib.Core.Bool.{Bool, true}
 use mathlib.Core.List.{List}
 use Prim.Native.Nat.{ℕ, ◌+◌, ◌-◌, ◌≤◌, ◌<◌}
 use native.Mathlib.Omega.{arith}
@@ -9,7 +10,7 @@ use lib.ListN.{length, get_or}
 use Rattle.words.proofs.Lists.{split, same?}
 use Rattle.settings.specs.declared.Settings.{Settings}
 use Rattle.layout.specs.Places.{gap_word, send_at, task_at}
-use Rattle.blocks.specs.Chain.{list}
+use Rattle.blocks.specs.Chain.{list, block_of}
 use Rattle.blocks.specs.Moves.{enough}
 use Rattle.blocks.specs.Asked.{Takes}
 use Rattle.blocks.proofs.Taking.{too_few, has-enough}
@@ -26,10 +27,12 @@ use Rattle.posting.specs.declared.Goal.{Goal}
 use Rattle.posting.specs.declared.Goal.TheVariants.{Task, Node}
 
 -- the n-th block of the free list is there, or it is 0
-pub blocks-there : (s : Settings) (node : List ℕ) (n : ℕ) → Takes s node n → (last : ℕ) → last ≡ get_or (list s node n (get_or node 0 0)) (n - 1) 0
-    → not (eqb last 0) ≡ enough s node n
-blocks-there s node n t last e =
-    same? last 0 (λ q y. rw y (sym (too_few s node n t last e q))) (λ q y. rw y (sym (has-enough s node n t last e q)))
+pub blocks-there : (s : Settings) (node : List ℕ) (n : ℕ) → Takes s node n → {x : Option ℕ} {b : Bool} → x ≡ block_of (get_or (list s node n (get_or node 0 0)) (n - 1) 0)
+    → b ≡ is_some x → b ≡ enough s node n
+blocks-there s node n t {x} {b} e f =
+    let last : ℕ = get_or (list s node n (get_or node 0 0)) (n - 1) 0 in
+    f ∙ ap is_some e
+    ∙ same? last 0 (λ q y. rw y (sym (too_few s node n t last refl q))) (λ q y. rw y (sym (has-enough s node n t last refl q)))
 
 -- a task queue: below its length, or with a gap to close
 module _ (s : Settings) (node : List ℕ) (q : ℕ) (w : TaskQueue s node q) where

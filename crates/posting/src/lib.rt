@@ -16,6 +16,7 @@ ghost use Rattle.posting.specs.Asked.{Aims, Posts, Roomy};
 
 use answers::Answer;
 use letters::Header;
+use queues::QueueAt;
 use settings::Settings;
 
 // What a send that is done answers: the blocks taken.
@@ -78,7 +79,7 @@ fn has_blocks(node: &[u32], s: Settings, n: usize) -> bool
     ensures { result ≡ enough s node.now n }
 {
     let first = node[0];
-    blocks::reach(node, s, first, n) != 0
+    blocks::reach(node, s, first, n).is_some()
 }
 
 // Whether the task queue at word q takes one more, its gaps closed.
@@ -139,8 +140,7 @@ fn append_to(node: &mut [u32], s: Settings, goal: Goal, b: u32)
             let _ = gaps::append(node, s, at, b);
         }
         Goal::Node(k) => {
-            let at = layout::send_at(s, k);
-            let _ = queues::append(node, queues::send_kind(s), at, b);
+            let _ = QueueAt::send(s, k).append(node, b);
         }
     }
 }

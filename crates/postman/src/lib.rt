@@ -21,6 +21,40 @@ pub struct Position {
     pub held: u32,
 }
 
+impl Position {
+    // The stage becomes 1, 2 or 3: the position amended where it stands.
+    pub fn stop_at(&mut self, stage: u32, other: u32, held: u32)
+        ensures { self.new ≡ stopped_at self.old stage other held }
+    {
+        *self = stopped_at(*self, stage, other, held);
+    }
+
+    // A turn that finishes sets stage 0: the position amended where it stands.
+    pub fn rest(&mut self)
+        ensures { self.new ≡ rested_at self.old }
+    {
+        *self = at_rest(*self);
+    }
+}
+
+// The position at a stage, by value: the core. That it stands beside its twin by &mut is the form that docs/DECISIONS.md names.
+fn stopped_at(p: Position, stage: u32, other: u32, held: u32) -> Position
+    ensures { result ≡ stopped_at p stage other held }
+{
+    Position { stage, other, held }
+}
+
+// The position at rest, by value: the core.
+fn at_rest(p: Position) -> Position
+    ensures { result ≡ rested_at p }
+{
+    Position {
+        stage: 0,
+        other: 0,
+        held: 0,
+    }
+}
+
 // A turn so far: the position to keep, letters appended, blocks given back, how the last stage ended.
 #[derive(Clone, Copy, Debug, PartialEq, Eq)]
 pub struct Round {
@@ -28,6 +62,58 @@ pub struct Round {
     pub letters: u32,
     pub back: u32,
     pub how: Stage,
+}
+
+impl Round {
+    // A turn as it begins, from position p: where no stage stops it, it leaves the postman at rest.
+    pub fn start(p: Position) -> Round
+        ensures { result ≡ at_start }
+    {
+        let mut position = p;
+        position.rest();
+        Round {
+            position,
+            letters: 0,
+            back: 0,
+            how: Stage::Done,
+        }
+    }
+
+    // The turn stopped in a stage, at node i, holding block x.
+    pub fn stop(self, stage: u32, i: usize, x: u32, how: Stage) -> Round
+        requires { i < nodes }
+        ensures { result ≡ stopped self stage i x how }
+    {
+        let mut position = self.position;
+        position.stop_at(stage, i as u32, x);
+        Round {
+            position,
+            how,
+            ..self
+        }
+    }
+
+    // One letter more was appended to a task queue.
+    pub fn one_letter(self) -> Round
+        requires { self.letters < 4294967295 }
+        ensures { result ≡ one_letter self }
+    {
+        Round {
+            letters: self.letters + 1,
+            ..self
+        }
+    }
+
+    // So many blocks more were given back.
+    pub fn blocks_back(self, n: usize) -> Round
+        requires { self.back + n ≤ 4294967295 }
+        ensures { result ≡ blocks_back self n }
+    {
+        Round {
+            back: self.back + n as u32,
+            ..self
+        }
+    }
 }
 
 // The position of node j's postman.
@@ -58,118 +144,5 @@ pub fn keep(memory: &mut [u32], j: usize, p: Position)
         memory[5] = (j as u32) + 1;
     } else {
         memory[5] = 0;
-    }
-}
-
-// The position at a stage, by value: the core. That it stands beside its twin by &mut is the form that docs/DECISIONS.md names.
-fn stopped_at(p: Position, stage: u32, other: u32, held: u32) -> Position
-    ensures { result ≡ stopped_at p stage other held }
-{
-    Position { stage, other, held }
-}
-
-// The stage becomes 1, 2 or 3: the position amended where it stands.
-pub fn stop_at(p: &mut Position, stage: u32, other: u32, held: u32)
-    ensures { p.new ≡ stopped_at p.old stage other held }
-{
-    let q = *p;
-    *p = stopped_at(q, stage, other, held);
-}
-
-// By value again, for callers with branches.
-fn amended(p: Position, stage: u32, other: u32, held: u32) -> Position
-    ensures { result ≡ stopped_at p stage other held }
-{
-    let mut q = p;
-    stop_at(&mut q, stage, other, held);
-    q
-}
-
-// The position at rest, by value: the core.
-fn at_rest(p: Position) -> Position
-    ensures { result ≡ rested_at p }
-{
-    Position {
-        stage: 0,
-        other: 0,
-        held: 0,
-    }
-}
-
-// A turn that finishes sets stage 0: the position amended where it stands.
-pub fn rest(p: &mut Position)
-    ensures { p.new ≡ rested_at p.old }
-{
-    let q = *p;
-    *p = at_rest(q);
-}
-
-// By value again, for callers with branches.
-fn rested(p: Position) -> Position
-    ensures { result ≡ rested_at p }
-{
-    let mut q = p;
-    rest(&mut q);
-    q
-}
-
-// A turn as it begins, from position p: where no stage stops it, it leaves the postman at rest.
-pub fn start(p: Position) -> Round
-    ensures { result ≡ at_start }
-{
-    let position = rested(p);
-    let how = Stage::Done;
-    Round {
-        position,
-        letters: 0,
-        back: 0,
-        how,
-    }
-}
-
-// The turn stopped in a stage, at node i, holding block x.
-pub fn stop(r: Round, stage: u32, i: usize, x: u32, how: Stage) -> Round
-    requires { i < nodes }
-    ensures { result ≡ stopped r stage i x how }
-{
-    let was = r.position;
-    let position = amended(was, stage, i as u32, x);
-    Round {
-        position,
-        letters: r.letters,
-        back: r.back,
-        how,
-    }
-}
-
-// One letter more was appended to a task queue.
-pub fn one_letter(r: Round) -> Round
-    requires { r.letters < 4294967295 }
-    ensures { result ≡ one_letter r }
-{
-    let position = r.position;
-    let how = r.how;
-    let letters = r.letters + 1;
-    Round {
-        position,
-        letters,
-        back: r.back,
-        how,
-    }
-}
-
-// So many blocks more were given back.
-pub fn blocks_back(r: Round, n: usize) -> Round
-    requires { r.back + n ≤ 4294967295 }
-    ensures { result ≡ blocks_back r n }
-{
-    let position = r.position;
-    let how = r.how;
-    let back = r.back + (n as u32);
-    Round {
-        position,
-        letters: r.letters,
-        back,
-        how,
     }
 }

@@ -16,6 +16,7 @@ ghost use Rattle.receive.specs.Outcome.{told, receive};
 ghost use Rattle.receive.specs.Asked.{Whole, Fits, Holds, Leaves, Kept, Seated, Collects};
 
 use answers::Answer;
+use queues::QueueAt;
 use settings::Settings;
 
 // What a receive that is done answers: the source, and the words of the body.
@@ -74,9 +75,7 @@ fn is_filled(node: &[u32], s: Settings, q: usize, source: u32) -> bool
     if source == 0 {
         return false;
     }
-    let at = layout::task_at(s, q);
-    let items = queues::items_of(node, queues::task_kind(s), at);
-    s.t <= items
+    s.t <= QueueAt::task(s, q).items(node)
 }
 
 // No such letter: 8 before 7, and the empty count rises.
@@ -100,8 +99,7 @@ fn first_block(node: &[u32], s: Settings, q: usize, k: usize) -> u32
     requires { Holds s node.now q k }
     ensures { result ≡ item_at (task_kind s) node.now (task_at s q) k }
 {
-    let at = layout::task_at(s, q);
-    queues::item(node, queues::task_kind(s), at, k)
+    QueueAt::task(s, q).item(node, k)
 }
 
 // The words of the body of the letter that block b begins.

@@ -42,7 +42,7 @@ impl<const LEAST: u32, const GREATEST: u32> Setting<LEAST, GREATEST> {
     }
 }
 
-// The five together, by the letters that the document gives them.
+// The five together, by the letters that the document gives them. That they are in range stays a clause: `sound::settings_in` makes one of any memory's words.
 #[derive(Clone, Copy, Debug, PartialEq, Eq)]
 pub struct Settings {
     pub b: usize,

@@ -21,6 +21,7 @@ pub enum SetUpRefusal {
 }
 
 // The settings, in a head of zeroes.
+#[tactic(auto, unfolding(crate::specs::Fresh::fresh_head))]
 fn lay_head(head: &mut [u32], s: Settings)
     requires in_range { InRange s }
     requires head_value { head.old ≡ replicate table_at 0 }
@@ -72,6 +73,7 @@ fn lay_memory(memory: &mut [u32], s: Settings, table: &[u32])
 }
 
 // Set up, for any five numbers, any table and any memory.
+#[tactic(auto, using(crate::proofs::Made::made_range, tasks::proofs::Laws::right_length_lem), unfolding(crate::specs::Outcome::set_up, settings::specs::Made::made_settings))]
 pub fn set_up(
     b: u32,
     m: u32,

@@ -17,7 +17,7 @@ ghost use Rattle.shapes.specs.Shape.{
   right_stretch,
 };
 
-use queues::Kind;
+use queues::QueueAt;
 use settings::Settings;
 
 // Whether the words from a on, before e, are 0.
@@ -29,42 +29,43 @@ fn are_zero(node: &[u32], a: usize, e: usize) -> bool
 }
 
 // Whether the slots outside the items are 0, as they stand: behind the last item and before the first, or between them where the items run round.
-fn is_clear(node: &[u32], k: Kind, q: usize, first: usize, count: usize) -> bool
-    requires placed { Placed k node.now q }
-    requires first_value { (first ≡ start k node.now q) × (first < k.slots) }
-    requires count_value { (count ≡ items k node.now q) × (count ≤ k.slots) }
-    ensures { result ≡ clear_outside k node.now q }
+fn is_clear(node: &[u32], queue: QueueAt, first: usize, count: usize) -> bool
+    requires placed { Placed queue.kind node.now queue.at }
+    requires first_value { (first ≡ start queue.kind node.now queue.at) × (first < queue.kind.slots) }
+    requires count_value { (count ≡ items queue.kind node.now queue.at) × (count ≤ queue.kind.slots) }
+    ensures { result ≡ clear_outside queue.kind node.now queue.at }
 {
-    let base = q + k.head;
+    let base = queue.at + queue.kind.head;
+    let slots = queue.kind.slots;
     // a queue with no items: all its slots are one run
     if count == 0 {
-        return are_zero(node, base, base + k.slots);
+        return are_zero(node, base, base + slots);
     }
     let end = first + count;
-    if k.slots < end {
-        return are_zero(node, base + (end - k.slots), base + first);
+    if slots < end {
+        return are_zero(node, base + (end - slots), base + first);
     }
-    are_zero(node, base + end, base + k.slots) && are_zero(node, base, base + first)
+    are_zero(node, base + end, base + slots) && are_zero(node, base, base + first)
 }
 
 // Whether the start is below the queue's length, the items at most it, and the slots outside the items 0.
-fn is_in_shape(node: &[u32], k: Kind, q: usize) -> bool
-    requires { Placed k node.now q }
-    ensures { result ≡ in_shape k node.now q }
+fn is_in_shape(node: &[u32], queue: QueueAt) -> bool
+    requires { Placed queue.kind node.now queue.at }
+    ensures { result ≡ in_shape queue.kind node.now queue.at }
 {
-    let first = node[q] as usize;
-    let count = node[q + 1] as usize;
-    first < k.slots && count <= k.slots && is_clear(node, k, q, first, count)
+    let first = node[queue.at] as usize;
+    let count = node[queue.at + 1] as usize;
+    let slots = queue.kind.slots;
+    first < slots && count <= slots && is_clear(node, queue, first, count)
 }
 
 // Whether the items lie between the two, both included.
-fn are_within(node: &[u32], k: Kind, q: usize, least: usize, most: usize) -> bool
-    requires { Queue k node.now q }
-    ensures { result ≡ items_within least most (contents k node.now q) }
+fn are_within(node: &[u32], queue: QueueAt, least: usize, most: usize) -> bool
+    requires { Queue queue.kind node.now queue.at }
+    ensures { result ≡ items_within least most (contents queue.kind node.now queue.at) }
 {
-    let count = queues::items_of(node, k, q);
-    for i in 0..count {
-        let b = queues::item(node, k, q, i) as usize;
+    for i in 0..queue.items(node) {
+        let b = queue.item(node, i) as usize;
         if !(least..=most).contains(&b) {
             return false;
         }
@@ -73,46 +74,51 @@ fn are_within(node: &[u32], k: Kind, q: usize, least: usize, most: usize) -> boo
 }
 
 // Whether a send or acknowledge queue is right; `own`: it is the node's queue to itself.
-fn is_right_post(node: &[u32], k: Kind, q: usize, m: usize, own: bool) -> bool
-    requires { Placed k node.now q }
-    ensures { result ≡ right_post k node.now q m own }
+#[tactic(auto, using(sound::proofs::Shapes::shape_queue))]
+fn is_right_post(node: &[u32], queue: QueueAt, m: usize, own: bool) -> bool
+    requires { Placed queue.kind node.now queue.at }
+    ensures { result ≡ right_post queue.kind node.now queue.at m own }
 {
-    if !is_in_shape(node, k, q) {
+    if !is_in_shape(node, queue) {
         return false;
     }
     if own {
-        queues::items_of(node, k, q) == 0
+        queue.items(node) == 0
     } else {
-        are_within(node, k, q, 1, m)
+        are_within(node, queue, 1, m)
     }
 }
 
 // Whether a task queue is right; `task`: the task that it is bound to, 0 for none.
-fn is_right_seat(node: &[u32], k: Kind, q: usize, m: usize, task: u8) -> bool
-    requires placed { Placed k node.now q }
-    requires le_head { 3 ≤ k.head }
-    ensures { result ≡ right_seat k node.now q m task }
+#[tactic(auto, using(sound::proofs::Shapes::shape_queue))]
+fn is_right_seat(node: &[u32], queue: QueueAt, m: usize, task: u8) -> bool
+    requires placed { Placed queue.kind node.now queue.at }
+    requires le_head { 3 ≤ queue.kind.head }
+    ensures { result ≡ right_seat queue.kind node.now queue.at m task }
 {
-    if !is_in_shape(node, k, q) {
+    if !is_in_shape(node, queue) {
         return false;
     }
-    if queues::items_of(node, k, q) == 0 {
-        return node[q + 2] == 0;
+    if queue.items(node) == 0 {
+        return node[queue.at + 2] == 0;
     }
-    if task == 0 || queues::item(node, k, q, 0) == 0 {
+    if task == 0 || queue.item(node, 0) == 0 {
         return false;
     }
-    are_within(node, k, q, 0, m) && node[q + 2] == taking::gap_flag(node, k, q)
+    are_within(node, queue, 0, m) && node[queue.at + 2] == taking::gap_flag(node, queue)
 }
 
-// Whether the six send or acknowledge queues of node i, the first of them at word `first`, are right.
-fn are_right_posts(node: &[u32], kind: Kind, first: usize, m: usize, i: usize) -> bool
-    requires { (k : ℕ) → k < nodes → Placed kind node.now (first + k * (kind.head + kind.slots)) }
-    ensures { result ≡ every nodes (λ k. right_post kind node.now (first + k * (kind.head + kind.slots)) m (eqb k i)) }
+// Whether the six send or acknowledge queues of node i, of which `first` is the first, are right.
+fn are_right_posts(node: &[u32], first: QueueAt, m: usize, i: usize) -> bool
+    requires { (k : ℕ) → k < nodes → Placed first.kind node.now (first.at + k * (first.kind.head + first.kind.slots)) }
+    ensures { result ≡ every nodes (λ k. right_post first.kind node.now (first.at + k * (first.kind.head + first.kind.slots)) m (eqb k i)) }
 {
     for k in 0..6 {
-        let q = first + k * (kind.head + kind.slots);
-        if !is_right_post(node, kind, q, m, k == i) {
+        let queue = QueueAt {
+            at: first.at + k * (first.kind.head + first.kind.slots),
+            ..first
+        };
+        if !is_right_post(node, queue, m, k == i) {
             return false;
         }
     }
@@ -125,11 +131,9 @@ fn are_right_seats(node: &[u32], s: Settings, seats: &[u8; 384], i: usize) -> bo
     requires i_bound { i < 6 }
     ensures { result ≡ right_seats s node.now i seats.now }
 {
-    let kind = queues::task_kind(s);
     for q in 0..64 {
-        let at = layout::task_at(s, q);
         let task = seats[i * 64 + q];
-        if !is_right_seat(node, kind, at, s.m, task) {
+        if !is_right_seat(node, QueueAt::task(s, q), s.m, task) {
             return false;
         }
     }
@@ -142,7 +146,7 @@ pub fn is_right_stretch(node: &[u32], s: Settings, seats: &[u8; 384], i: usize) 
     requires i_bound { i < 6 }
     ensures { result ≡ right_stretch s node.now i seats.now }
 {
-    are_right_posts(node, queues::send_kind(s), layout::send_at(s, 0), s.m, i)
-        && are_right_posts(node, queues::ack_kind(s), layout::ack_at(s, 0), s.m, i)
+    are_right_posts(node, QueueAt::send(s, 0), s.m, i)
+        && are_right_posts(node, QueueAt::ack(s, 0), s.m, i)
         && are_right_seats(node, s, seats, i)
 }

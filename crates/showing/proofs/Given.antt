@@ -1,15 +1,15 @@
 -- What a letter that a block begins gives to the functions that read it. Assumes nothing.
-use mathlib.Core.Path.{◌≡◌, sym, ◌∙◌}
+use mathlib.Core.Path.{◌≡◌, ◌∙◌}
 use mathlib.Core.List.{List}
 use Prim.Native.Nat.{ℕ, ◌+◌, ◌-◌, ◌≤◌, ◌<◌}
 use native.Mathlib.Omega.{arith}
 use Rattle.settings.specs.declared.Settings.{Settings}
 use Rattle.layout.specs.Places.{nodes, node_size, node_at, node}
-use Rattle.layout.specs.Numbers.{header_words, source_task_word, length_word}
+use Rattle.layout.specs.Numbers.{header_words, source_task_word}
 use Rattle.layout.specs.Asked.{Stretch, Sized}
 use Rattle.words.proofs.Parts.{length_part}
 use Rattle.layout.proofs.MemoryRows.{stretch-fits}
-use Rattle.letters.specs.Letter.{word}
+use Rattle.letters.specs.Letter.{word, told}
 use Rattle.letters.specs.Asked.{Lies}
 use Rattle.sound.specs.Letters.{told_length}
 use Rattle.sound.proofs.Right.{right_least, right_lies, right_word, right_told}
@@ -24,7 +24,7 @@ sized-stretch s memory z i h =
       long = length_part memory (node_at s i) (node_at s i + node_size s) (omega arith) (omega (arith, stretch-fits s i h, z.long)) ∙ omega arith;
     }
 
--- ---- a letter
+-- ---- a letter, read in the node's stretch
 module _ (s : Settings) (memory : List ℕ) (i b : ℕ) (g : Begins s memory i b) where
   abbrev w : List ℕ
   w = node s memory i
@@ -35,20 +35,21 @@ module _ (s : Settings) (memory : List ℕ) (i b : ℕ) (g : Begins s memory i b
   begins-least : header_words ≤ told_length s w b
   begins-least = right_least s w st b g.ends g.long
 
-  pub begins-lies : (k : ℕ) → k < header_words → Lies s w (k + 1) b
-  begins-lies k h = right_lies s w st b g.ends g.long (k + 1) (omega (arith, begins-least))
+  module _ (v : List ℕ) (e : v ≡ w) where
+    pub begins-lies : (k : ℕ) → k ≤ header_words → Lies s v k b
+    begins-lies k h = rw e (right_lies s w st b g.ends g.long k (omega (arith, begins-least)))
 
-  pub begins-word : (k : ℕ) → k < header_words → word s w b k ≡ word_in s memory i b k
-  begins-word k h = right_word s w st b g.ends g.long k (omega (arith, begins-least))
+    pub begins-word : (k : ℕ) → k < header_words → word s v b k ≡ word_in s memory i b k
+    begins-word k h = rw e (right_word s w st b g.ends g.long k (omega (arith, begins-least)))
 
-  begins-told : word_in s memory i b length_word ≡ told_length s w b
-  begins-told = sym (begins-word length_word (omega arith)) ∙ right_told s w st b g.ends g.long
+    begins-told : told s v b ≡ told_length s w b
+    begins-told = rw e (right_told s w st b g.ends g.long)
 
-  -- what the list shows of it
-  pub shown_is : (task place source long : ℕ) → source ≡ word_in s memory i b source_task_word → long ≡ word_in s memory i b length_word
-      → record { destination = task; source = source; place = place; holder = i; block = b; body = long - header_words } ≡ shown s memory task place i b
-  unfolding shown
-  shown_is task place source long e f = rw (e, f, begins-told)
+    pub told-least : (long : ℕ) → long ≡ told s v b → header_words ≤ long
+    told-least long f = omega (arith, f ∙ begins-told, begins-least)
 
-  pub told-least : (long : ℕ) → long ≡ word_in s memory i b length_word → header_words ≤ long
-  told-least long f = omega (arith, f ∙ begins-told, begins-least)
+    -- what the list shows of it
+    pub shown_is : (task place source long : ℕ) → source ≡ word s v b source_task_word → long ≡ told s v b
+        → record { destination = task; source = source; place = place; holder = i; block = b; body = long - header_words } ≡ shown s memory task place i b
+    unfolding shown
+    shown_is task place source long f h = rw (f ∙ begins-word source_task_word (omega arith), h ∙ begins-told)

@@ -13,6 +13,7 @@ ghost use Rattle.shapes.specs.Seats.{Seats};
 ghost use Rattle.places.specs.Given.{stands_right, Looked};
 ghost use Rattle.soundness.specs.Parts.{is_other, node_right, seated_right, Queued};
 
+use queues::QueueAt;
 use settings::Settings;
 
 // Whether `other` is another node than j, whose send queue to j has an item.
@@ -25,8 +26,7 @@ fn is_other(memory: &[u32], s: Settings, j: usize, other: usize) -> bool
         return false;
     }
     let theirs = layout::stretch(memory, s, other);
-    let q = layout::send_at(s, j);
-    1 <= queues::items_of(theirs, queues::send_kind(s), q)
+    1 <= QueueAt::send(s, j).items(theirs)
 }
 
 // Whether the position of node j's postman is right, but for the comparison of letters.
@@ -107,6 +107,7 @@ fn is_right_memory(memory: &[u32], s: Settings) -> bool
     requires { Sized s memory.now }
     ensures { result ≡ (right_table (table_in memory.now) && seated_right s memory.now) }
 {
+    // the task on each seat, in fixed memory: there is no heap
     let mut seats = [0u8; 384];
     tasks::seat_tasks(layout::table(memory), &mut seats) && is_right_seated(memory, s, &seats)
 }

@@ -10,7 +10,7 @@ ghost use Rattle.lending.specs.Asked.{HasFirst};
 ghost use Rattle.stages.specs.Asked.{Holds, GaveBack};
 
 use postman::Stage;
-use queues::Full;
+use queues::{Full, QueueAt};
 use settings::Settings;
 
 // How a stage ends that appends: a full queue stops it, with that number.
@@ -55,8 +55,7 @@ pub fn put_ack(memory: &mut [u32], s: Settings, i: usize, j: usize) -> Stage
     ensures { did memory.new result ≡ acknowledged s j memory.old i }
 {
     let x = lending::first_of(memory, s, i, j);
-    let q = layout::ack_at(s, i);
-    let done = lending::append_in(memory, s, j, queues::ack_kind(s), q, x);
+    let done = lending::append_in(memory, s, j, QueueAt::ack(s, i), x);
     stage_of(done, 10)
 }
 
@@ -65,8 +64,7 @@ pub fn drop_send(memory: &mut [u32], s: Settings, i: usize, j: usize)
     requires { HasFirst s memory.old i j }
     ensures { memory.new ≡ send_dropped s j memory.old i }
 {
-    let q = layout::send_at(s, j);
-    lending::drop_in(memory, s, i, queues::send_kind(s), q);
+    lending::drop_in(memory, s, i, QueueAt::send(s, j));
 }
 
 // Drops the first item of acknowledge queue j on node i, gives its chain back in j, and answers its blocks.
@@ -74,8 +72,7 @@ pub fn give_back(memory: &mut [u32], s: Settings, i: usize, j: usize) -> usize
     requires { Owes s memory.old j i 1 }
     ensures { GaveBack s memory.old j i result memory.new }
 {
-    let q = layout::ack_at(s, j);
-    let x = lending::drop_in(memory, s, i, queues::ack_kind(s), q);
+    let x = lending::drop_in(memory, s, i, QueueAt::ack(s, j));
     let length = lending::length_of(memory, s, j, x);
     let n = blocks::needs_of(s, length);
     lending::return_chain(memory, s, j, x, n);

@@ -1,4 +1,4 @@
--- What a turn of each loop passes, and what the tests of `is_from` and `look` tell. Assumes nothing.
+-- What a turn of each loop passes, and what the test of `is_from` tells. Assumes nothing.
 use Rattle.std.specs.Prelude.{None, Some}
 use mathlib.Core.Path.{◌≡◌, refl, ap, ◌∙◌}
 use mathlib.Core.Bool.{Bool, true, false}
@@ -6,18 +6,16 @@ use mathlib.Core.List.{List}
 use Prim.Native.Nat.{ℕ, zero, suc, ◌+◌, ◌-◌, ◌≤◌, ◌<◌}
 use native.Mathlib.Nat.{add-zero}
 use native.Mathlib.Omega.{arith}
-use lib.Dec.{eqb, leb}
+use lib.Dec.{eqb}
 use lib.ListN.{get_or, set}
-use borrow.Author.Tests.{eq-eqb, ne_eqb, le-leb, lt-leb, leb-true, leb-false}
-use Rattle.words.proofs.Lists.{split}
+use borrow.Author.Tests.{eq-eqb, ne_eqb}
 use Rattle.settings.specs.declared.Settings.{Settings}
 use Rattle.layout.specs.Places.{block_at, gap_word}
 use Rattle.queues.specs.declared.Kind.{Kind}
 use Rattle.queues.specs.Queue.{item_at, slot_at, run, items, contents, task_kind}
 use Rattle.queues.specs.Moves.{dropped}
 use Rattle.queues.specs.Items.{gap_flag}
-use Rattle.taking.specs.declared.Seen.TheVariants.{Here, Past, End}
-use Rattle.taking.specs.Find.{from, wanted, seen, first_from}
+use Rattle.taking.specs.Find.{from, wanted, first_from}
 use Rattle.taking.specs.Take.{cleared, first_out, out, flagged, taken_out}
 
 down : (n : ℕ) → 0 < n → n ≡ suc (n - 1)
@@ -99,49 +97,11 @@ module _ (s : Settings) (l : List ℕ) (source b : ℕ) where
   unfolding from
   from_one g at e = rw (ne_eqb source 0 g, e, add-zero (block_at s b))
 
--- ---- what is seen
-module _ (s : Settings) (l : List ℕ) (q source i : ℕ) where
-  pub seen_end : items (task_kind s) l q ≤ i → End ≡ seen s l q source i
-  unfolding seen
-  seen_end h = rw (le-leb (items (task_kind s) l q) i h)
+  -- a gap is not wanted, and another item where it is from the source
+  pub wanted-gap : b ≡ 0 → wanted s l source b ≡ false
+  unfolding wanted
+  wanted-gap e = rw (eq-eqb b 0 e)
 
-  module _ (h : i < items (task_kind s) l q) {b : ℕ} (e : b ≡ item_at (task_kind s) l q i) where
-    pub seen-gap : b ≡ 0 → Past ≡ seen s l q source i
-    unfolding seen wanted
-    seen-gap z = rw (lt-leb (items (task_kind s) l q) i h, ← e, eq-eqb b 0 z)
-
-    pub seen_here : (b ≡ 0 → ⊥) → from s l source b ≡ true → Here ≡ seen s l q source i
-    unfolding seen wanted
-    seen_here z t = rw (lt-leb (items (task_kind s) l q) i h, ← e, ne_eqb b 0 z, t)
-
-    pub seen_other : (b ≡ 0 → ⊥) → from s l source b ≡ false → Past ≡ seen s l q source i
-    unfolding seen wanted
-    seen_other z t = rw (lt-leb (items (task_kind s) l q) i h, ← e, ne_eqb b 0 z, t)
-
-  -- what each answer tells
-  pub told_end : seen s l q source i ≡ End → items (task_kind s) l q ≤ i
-  unfolding seen
-  told_end e =
-      split (leb (items (task_kind s) l q) i)
-      (λ t. leb-true (items (task_kind s) l q) i t)
-      (λ t. split (wanted s l source (item_at (task_kind s) l q i))
-      (λ u. absurd (let z : Here ≡ End = rw (t, u) at e in let y : ◌≡◌ {A = ℕ} 0 1 = cc in omega arith))
-      (λ u. absurd (let z : Past ≡ End = rw (t, u) at e in let y : ◌≡◌ {A = ℕ} 0 1 = cc in omega arith)))
-
-  pub told_here : seen s l q source i ≡ Here → (i < items (task_kind s) l q) × (wanted s l source (item_at (task_kind s) l q i) ≡ true)
-  unfolding seen
-  told_here e =
-      split (leb (items (task_kind s) l q) i)
-      (λ t. absurd (let z : End ≡ Here = rw t at e in let y : ◌≡◌ {A = ℕ} 0 1 = cc in omega arith))
-      (λ t. split (wanted s l source (item_at (task_kind s) l q i))
-      (λ u. (leb-false (items (task_kind s) l q) i t, u))
-      (λ u. absurd (let z : Past ≡ Here = rw (t, u) at e in let y : ◌≡◌ {A = ℕ} 0 1 = cc in omega arith)))
-
-  pub told_past : seen s l q source i ≡ Past → (i < items (task_kind s) l q) × (wanted s l source (item_at (task_kind s) l q i) ≡ false)
-  unfolding seen
-  told_past e =
-      split (leb (items (task_kind s) l q) i)
-      (λ t. absurd (let z : End ≡ Past = rw t at e in let y : ◌≡◌ {A = ℕ} 0 1 = cc in omega arith))
-      (λ t. split (wanted s l source (item_at (task_kind s) l q i))
-      (λ u. absurd (let z : Here ≡ Past = rw (t, u) at e in let y : ◌≡◌ {A = ℕ} 0 1 = cc in omega arith))
-      (λ u. (leb-false (items (task_kind s) l q) i t, u)))
+  pub wanted_from : (b ≡ 0 → ⊥) → wanted s l source b ≡ from s l source b
+  unfolding wanted
+  wanted_from g = rw (ne_eqb b 0 g)

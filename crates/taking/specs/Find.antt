@@ -1,12 +1,10 @@
 -- Finding a letter in a task queue: 'Receive'.
-use Rattle.std.specs.Prelude.{Bool, true, false, cond, List, [], ◌∷◌, ℕ, ◌+◌, ◌≤◌, ◌<◌, eqb, leb, get_or, None, Option, Some}
+use Rattle.std.specs.Prelude.{Bool, true, false, cond, List, [], ◌∷◌, ℕ, ◌+◌, ◌≤◌, ◌<◌, eqb, get_or, None, Option, Some}
 use Rattle.settings.specs.declared.Settings.{Settings}
 use Rattle.layout.specs.Places.{block_at}
 use Rattle.layout.specs.Numbers.{source_task_word}
 use Rattle.layout.specs.Asked.{Stretch}
 use Rattle.queues.specs.Queue.{Queue, items, item_at, contents, task_kind}
-use Rattle.taking.specs.declared.Seen.{Seen}
-use Rattle.taking.specs.declared.Seen.TheVariants.{Here, Past, End}
 
 -- the letter that block b begins is from the source; source 0 stands for any
 unfoldable pub from : Settings → List ℕ → ℕ → ℕ → Bool
@@ -24,11 +22,6 @@ first_from p i (x ∷ xs) = cond (p x) (Some i) (first_from p (i + 1) xs)
 -- 'Source 0 takes the first letter; otherwise the first from that source'
 abbrev pub found : Settings → List ℕ → ℕ → ℕ → Option ℕ
 found s node q source = first_from (wanted s node source) 0 (contents (task_kind s) node q)
-
--- what stands at place i: the wanted letter, the queue's end, or something to pass over
-unfoldable pub seen : Settings → List ℕ → ℕ → ℕ → ℕ → Seen
-seen s node q source i =
-    cond (leb (items (task_kind s) node q) i) End (cond (wanted s node source (item_at (task_kind s) node q i)) Here Past)
 
 -- a task queue in a node's stretch, with items 0 to M
 pub record Findable (s : Settings) (node : List ℕ) (q : ℕ) : Type 0 where

@@ -5,19 +5,11 @@ ghost use Rattle.std.specs.Prelude.{◌≡◌, ◌≤◌, ◌<◌};
 ghost use Rattle.layout.specs.Asked.{Stretch};
 ghost use Rattle.queues.specs.Queue.{Queue, items, contents, task_kind};
 ghost use Rattle.queues.specs.Items.{gap_flag};
-ghost use Rattle.taking.specs.Find.{from, seen, found, Findable};
+ghost use Rattle.taking.specs.Find.{from, found, Findable};
 ghost use Rattle.taking.specs.Take.{cleared, out, taken_out, Place};
 
-use queues::Kind;
+use queues::{Kind, QueueAt};
 use settings::Settings;
-
-// What stands at a place: the wanted letter, something to pass over, or the queue's end.
-#[derive(Clone, Copy, Debug, PartialEq, Eq)]
-pub enum Seen {
-    Here,
-    Past,
-    End,
-}
 
 // Whether the letter that block b begins is from the source; source 0 stands for any.
 fn is_from(node: &[u32], s: Settings, source: u32, b: u32) -> bool
@@ -28,60 +20,42 @@ fn is_from(node: &[u32], s: Settings, source: u32, b: u32) -> bool
     source == 0 || node[layout::block_at(s, b as usize)] == source
 }
 
-// What stands at place i: a gap is passed over, and is not the end.
-fn look(node: &[u32], s: Settings, q: usize, source: u32, i: usize) -> Seen
-    requires { Findable s node.now q }
-    ensures { result ≡ seen s node.now q source i }
-{
-    let k = queues::task_kind(s);
-    let items = queues::items_of(node, k, q);
-    if items <= i {
-        return Seen::End;
-    }
-    let b = queues::item(node, k, q, i);
-    if b == 0 {
-        return Seen::Past;
-    }
-    if is_from(node, s, source, b) {
-        return Seen::Here;
-    }
-    Seen::Past
-}
-
 // The place of the first letter from the source, if there is one.
 pub fn find(node: &[u32], s: Settings, q: usize, source: u32) -> Option<usize>
     requires { Findable s node.now q }
     ensures { result ≡ found s node.now q source }
 {
-    let items = queues::items_of(node, queues::task_kind(s), q);
-    for i in 0..items {
-        match look(node, s, q, source, i) {
-            Seen::Here => return Some(i),
-            Seen::End => break,
-            Seen::Past => {}
+    let queue = QueueAt {
+        kind: Kind::task(s),
+        at: q,
+    };
+    for i in 0..queue.items(node) {
+        let b = queue.item(node, i);
+        if b != 0 && is_from(node, s, source, b) {
+            return Some(i);
         }
     }
     None
 }
 
 // Drops the zeroes at the front.
-fn drop_zeroes(node: &mut [u32], k: Kind, q: usize)
-    requires { Queue k node.old q }
-    ensures { node.new ≡ cleared k q (items k node.old q) node.old }
+fn drop_zeroes(node: &mut [u32], queue: QueueAt)
+    requires { Queue queue.kind node.old queue.at }
+    ensures { node.new ≡ cleared queue.kind queue.at (items queue.kind node.old queue.at) node.old }
 {
-    while queues::items_of(node, k, q) > 0 && queues::item(node, k, q, 0) == 0 {
-        queues::drop_first(node, k, q);
+    // what is left of the queue is tested, no index is counted
+    while queue.items(node) > 0 && queue.item(node, 0) == 0 {
+        queue.drop_first(node);
     }
 }
 
 // 1 if an item is 0, else 0.
-pub fn gap_flag(node: &[u32], k: Kind, q: usize) -> u32
-    requires { Queue k node.now q }
-    ensures { result ≡ gap_flag (contents k node.now q) }
+pub fn gap_flag(node: &[u32], queue: QueueAt) -> u32
+    requires { Queue queue.kind node.now queue.at }
+    ensures { result ≡ gap_flag (contents queue.kind node.now queue.at) }
 {
-    let items = queues::items_of(node, k, q);
-    for i in 0..items {
-        if queues::item(node, k, q, i) == 0 {
+    for i in 0..queue.items(node) {
+        if queue.item(node, i) == 0 {
             return 1;
         }
     }
@@ -89,18 +63,17 @@ pub fn gap_flag(node: &[u32], k: Kind, q: usize) -> u32
 }
 
 // Drops the first item with the zeroes directly behind it; an item further in becomes 0.
-fn take(node: &mut [u32], k: Kind, q: usize, i: usize)
-    requires { Place k node.old q i }
-    ensures { node.new ≡ out k node.old q i }
+fn take(node: &mut [u32], queue: QueueAt, i: usize)
+    requires { Place queue.kind node.old queue.at i }
+    ensures { node.new ≡ out queue.kind node.old queue.at i }
 {
     if i == 0 {
-        queues::drop_first(node, k, q);
-        drop_zeroes(node, k, q);
+        queue.drop_first(node);
+        drop_zeroes(node, queue);
         return;
     }
-    let first = node[q] as usize;
-    let at = queues::slot_at(k, q, first, i);
-    node[at] = 0;
+    let first = node[queue.at] as usize;
+    node[queue.slot(first, i)] = 0;
 }
 
 // Takes the item at place i out of a task queue, and sets its flag.
@@ -108,8 +81,11 @@ pub fn take_out(node: &mut [u32], s: Settings, q: usize, i: usize)
     requires { Place (task_kind s) node.old q i }
     ensures { node.new ≡ taken_out s node.old q i }
 {
-    let k = queues::task_kind(s);
-    take(node, k, q, i);
-    let flag = gap_flag(node, k, q);
+    let queue = QueueAt {
+        kind: Kind::task(s),
+        at: q,
+    };
+    take(node, queue, i);
+    let flag = gap_flag(node, queue);
     node[q + 2] = flag;
 }

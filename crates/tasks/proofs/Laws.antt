@@ -1,45 +1,20 @@
 -- The task table's rule and the seats, by the tests on the way. Assumes nothing.
 use mathlib.Core.Path.{◌≡◌, refl, sym, ap}
-use mathlib.Core.Bool.{Bool, true, false, ◌&&◌, ◌||◌, not}
+use mathlib.Core.Bool.{true, false, ◌||◌, not}
 use mathlib.Core.List.{List}
 use Prim.Native.Nat.{ℕ, ◌≤◌, ◌<◌}
 use lib.ListN.{length}
 use native.Mathlib.Omega.{arith}
 use lib.Dec.{ltb, leb, eqb}
-use borrow.Author.Tests.{lt-ltb, le-ltb, ltb-true, leb-true, eq-eqb, ne_eqb, eqb-true, not-true}
-use Rattle.words.proofs.Lists.{and-false, and-true, every_at, told_none, told_some}
+use borrow.Author.Tests.{ltb-true, leb-true, eqb-true, not-true}
+use Rattle.words.proofs.Lists.{and-true, every_at, told_none, told_some}
 use Rattle.layout.specs.Places.{task_ids, table_words}
 use Rattle.tasks.specs.Table.{node_of, queue_of, holds_none, is_bound, has_seat, seated, apart, right_table}
 use Rattle.tasks.specs.Seat.{seat_of}
 use Rattle.tasks.specs.declared.Seat.{Seat}
 use Rattle.std.specs.Prelude.{Some, None}
 
-module _ (t : List ℕ) (id : ℕ) where
-  pub seat_over : 255 < id → None ≡ seat_of t id
-  unfolding seat_of is_bound
-  seat_over h = rw (le-ltb id 256 h)
-
-  pub seat_none : holds_none t id ≡ true → None ≡ seat_of t id
-  unfolding seat_of is_bound
-  seat_none h = simp (h, and-false (ltb id task_ids))
-
-  pub seat_at_lem : id ≤ 255 → holds_none t id ≡ false → Some (record { node = node_of t id; queue = queue_of t id }) ≡ seat_of t id
-  unfolding seat_of is_bound
-  seat_at_lem l h = simp (h, lt-ltb id 256 (omega arith))
-
 module _ (t : List ℕ) where
-  pub wrong_length : (length t ≡ table_words → ⊥) → false ≡ right_table t
-  unfolding right_table
-  wrong_length h = rw (ne_eqb (length t) 512 h)
-
-  pub wrong_first : length t ≡ table_words → holds_none t 0 ≡ false → false ≡ right_table t
-  unfolding right_table
-  wrong_first l h = rw (eq-eqb (length t) 512 l, h)
-
-  pub right_rest : length t ≡ table_words → holds_none t 0 ≡ true → (b : Bool) → b ≡ seated t && apart t → b ≡ right_table t
-  unfolding right_table
-  right_rest l h b e = rw (eq-eqb (length t) 512 l, h) e
-
   -- a table that keeps the rule has its 512 words
   pub right_length_lem : right_table t ≡ true → length t ≡ table_words
   unfolding right_table

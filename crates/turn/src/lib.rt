@@ -62,16 +62,13 @@ fn resume(memory: &mut [u32], s: Settings, j: usize, p: Position, r: Round) -> R
     requires r_value { r ≡ at_start }
     ensures { post memory.new result ≡ resumed s j memory.old p r }
 {
-    let stage = p.stage;
     let i = p.other as usize;
-    if stage < 2 {
-        return carrying::collect_from(memory, s, j, 0, r);
+    // The stage is a word of the memory: a table of closures would say no more than this match.
+    match p.stage {
+        0 | 1 => carrying::collect_from(memory, s, j, 0, r),
+        2 => carrying::deliver(memory, s, j, i, p.held, r),
+        _ => carrying::hand_on(memory, s, j, i, r),
     }
-    if stage == 2 {
-        let c = p.held;
-        return carrying::deliver(memory, s, j, i, c, r);
-    }
-    carrying::hand_on(memory, s, j, i, r)
 }
 
 // Node j's turn up to its end or its stop: all go on through that queue and higher nodes.
@@ -79,7 +76,7 @@ fn go(memory: &mut [u32], s: Settings, j: usize, p: Position) -> Round
     requires { SoundAt s memory.old j p }
     ensures { post memory.new result ≡ gone s j memory.old p at_start }
 {
-    let r = postman::start(p);
+    let r = Round::start(p);
     let a = resume(memory, s, j, p, r);
     let how = a.how;
     let Stage::Done = how else {

@@ -10,10 +10,9 @@ use lib.ListN.{length, get_or}
 use Rattle.words.specs.Words.{all}
 use Rattle.words.proofs.Lists.{and-true, and-false, told_no, told_yes}
 use Rattle.settings.specs.declared.Settings.{Settings}
+use Rattle.layout.specs.Asked.{Stretch}
 use Rattle.tasks.specs.Table.{node_of, is_bound}
-use Rattle.tasks.specs.Seat.{seat_of}
 use Rattle.std.specs.Prelude.{Some, None}
-use Rattle.tasks.proofs.Laws.{told-unbound, told_at}
 use Rattle.queues.specs.Items.{live}
 use Rattle.queues.proofs.Items.{live_cons}
 use Rattle.blocks.proofs.Moves.{length-list}
@@ -22,34 +21,52 @@ use Rattle.sound.specs.Blocks.{chains}
 use Rattle.sound.proofs.Tests.{and_assoc, and_yes, and_cross, all_append}
 use Rattle.visits.specs.declared.Asks.{Asks}
 use Rattle.visits.specs.Marks.{fresh, marked, ends_within, clean, Visited}
-use Rattle.visits.specs.Letters.{is_on, is_asked, meets, letter_right, letters_right, Judged}
+use Rattle.letters.specs.Letter.{word}
+use Rattle.visits.proofs.Read.{head_word}
+use Rattle.visits.specs.Letters.{Whole, Readable, is_on, is_asked, meets, letter_right, letters_right, Judged}
 use Rattle.visits.proofs.Walks.{fresh-append, marked_append}
 
 -- ---- the header
-module _ (t : List ℕ) (task node : ℕ) where
-  pub on_no : seat_of t task ≡ None → false ≡ is_on t task node
-  unfolding is_on
-  on_no e = rw (told-unbound t task e)
-
-  pub on_at : (n q : ℕ) → seat_of t task ≡ Some (record { node = n; queue = q }) → eqb n node ≡ is_on t task node
-  unfolding is_on
-  on_at n q e = let w = told_at t task n q e in rw (w.0, w.1.0)
-
-module _ (t : List ℕ) (asks : Asks) (ws : List ℕ) where
+module _ (t ws : List ℕ) where
   pub header_is : right_header t ws ≡ is_on t (get_or ws 0 0) (get_or ws 1 0) && is_on t (get_or ws 2 0) (get_or ws 3 0)
   unfolding right_header is_on
   header_is = sym (and_assoc (is_bound t (get_or ws 0 0)) (eqb (node_of t (get_or ws 0 0)) (get_or ws 1 0)) _)
 
-  pub header_first : (a b : ℕ) → a ≡ get_or ws 0 0 → b ≡ get_or ws 1 0 → is_on t a b ≡ false → false ≡ right_header t ws && meets asks ws
-  header_first a b ea eb f = rw (header_is, sym (ap₂ (is_on t) ea eb) ∙ f)
+-- the tests of the header in the letter that block b begins, its first four words at hand
+module _ (s : Settings) (l : List ℕ) (b : ℕ) (r : Readable s l b) (t : List ℕ) (asks : Asks) (source from task to : ℕ) where
+  pub header_told : source ≡ word s l b 0 → from ≡ word s l b 1 → task ≡ word s l b 2 → to ≡ word s l b 3
+      → right_header t (words_from s l b) && meets asks (words_from s l b) ≡ (is_on t source from && is_on t task to) && is_asked asks from task to
+  header_told e f g h =
+      let w = head_word s l b r in
+      rw (e ∙ w 0 (omega arith), f ∙ w 1 (omega arith), g ∙ w 2 (omega arith), h ∙ w 3 (omega arith), header_is t (words_from s l b)) refl
 
-  -- the words a, b, c, d of a header
-  module _ (a b c d : ℕ) (ea : a ≡ get_or ws 0 0) (eb : b ≡ get_or ws 1 0) (ec : c ≡ get_or ws 2 0) (ed : d ≡ get_or ws 3 0) where
-    pub header_second : is_on t c d ≡ false → false ≡ right_header t ws && meets asks ws
-    header_second f = rw (header_is, sym (ap₂ (is_on t) ec ed) ∙ f, and-false (is_on t (get_or ws 0 0) (get_or ws 1 0)))
+-- ---- a chain that was visited whole, with so many blocks left
+module _ (s : Settings) (l : List ℕ) (b : ℕ) (marks : List ℕ) (r : Option ℕ) (new : List ℕ) (v : Visited s l s.m b marks r new) (left : ℕ) (e : r ≡ Some left) where
+  known : (clean s l s.m b marks ≡ true) × (s.m - length (chain_from s l b) ≡ left)
+  known =
+      let w = told_yes (clean s l s.m b marks) (Some (s.m - length (chain_from s l b))) None r v.is (Some left) (λ z. apart z) e in
+      let q = w.1 in
+      (w.0, cc)
+    where
+      apart : Some left ≡ None → ⊥
+      apart z = let y : ◌≡◌ {A = ℕ} 0 1 = cc in omega arith
 
-    pub header_yes : is_on t a b ≡ true → is_on t c d ≡ true → (r : Bool) → r ≡ is_asked asks b c d → r ≡ right_header t ws && meets asks ws
-    header_yes f g r e = rw (header_is, sym (ap₂ (is_on t) ea eb) ∙ f, sym (ap₂ (is_on t) ec ed) ∙ g) (e ∙ rw (eb, ec, ed))
+  its_ends : ends_well s l b ≡ true
+  unfolding clean ends_within ends_well
+  its_ends = (and-true (ends_well s l b) (fresh marks (chain_from s l b)) known.0).0
+
+  its_fresh : fresh marks (chain_from s l b) ≡ true
+  unfolding clean ends_within ends_well
+  its_fresh = (and-true (ends_well s l b) (fresh marks (chain_from s l b)) known.0).1
+
+  pub left_least : left ≤ s.m
+  left_least = let k = known.1 in omega arith
+
+  pub its_whole : Stretch s l → Whole s l b (s.m - left)
+  its_whole st = let k = known.1 in record { stretch = st; ends = its_ends; count = omega (arith, length-list s l s.m b) }
+
+  pub its_readable : Stretch s l → right_length s l b ≡ true → Readable s l b
+  its_readable st f = record { stretch = st; ends = its_ends; long = f }
 
 -- ---- letters joined
 module _ (s : Settings) (l t : List ℕ) (asks : Asks) where
@@ -115,38 +132,15 @@ module _ (s : Settings) (l t : List ℕ) (asks : Asks) where
               both false x f e = refl
 
           module _ (left : ℕ) (e : r ≡ Some left) where
-            known : (clean s l s.m b marks ≡ true) × (s.m - length (chain_from s l b) ≡ left)
-            known =
-                let w = told_yes (clean s l s.m b marks) (Some (s.m - length (chain_from s l b))) None r v.is (Some left) (λ z. apart z) e in
-                let q = w.1 in
-                (w.0, cc)
-              where
-                apart : Some left ≡ None → ⊥
-                apart z = let y : ◌≡◌ {A = ℕ} 0 1 = cc in omega arith
-
-            pub its_ends : ends_well s l b ≡ true
-            unfolding clean ends_within ends_well
-            its_ends = (and-true (ends_well s l b) (fresh marks (chain_from s l b)) known.0).0
-
-            its_fresh : fresh marks (chain_from s l b) ≡ true
-            unfolding clean ends_within ends_well
-            its_fresh = (and-true (ends_well s l b) (fresh marks (chain_from s l b)) known.0).1
-
-            pub left-least : left ≤ s.m
-            left-least = let k = known.1 in omega arith
-
-            pub its_count : s.m - left ≡ length (chain_from s l b)
-            its_count = let k = known.1 in omega (arith, length-list s l s.m b)
-
-            pub letter_short : right_length s l b ≡ false → Judged (letters_right s l t asks marks (live (b ∷ []))) (marked marks (chains s l (live (b ∷ [])))) false new
+            pub letter_short : (x : Bool) → x ≡ right_length s l b → x ≡ false → Judged (letters_right s l t asks marks (live (b ∷ []))) (marked marks (chains s l (live (b ∷ [])))) x new
             unfolding letter_right
-            letter_short f = judged_no new (rw (its_ends, f))
+            letter_short x q f = rw f (judged_no new (rw (its_ends s l b marks r new v left e, sym q ∙ f)))
 
             pub letter_head : right_length s l b ≡ true → (d : Bool) → d ≡ right_header t (words_from s l b) && meets asks (words_from s l b)
                 → Judged (letters_right s l t asks marks (live (b ∷ []))) (marked marks (chains s l (live (b ∷ [])))) d new
             unfolding letter_right
             letter_head f d q =
                 record {
-                  is = sym (right_one ∙ rw (its_ends, f, its_fresh, and_yes (right_header t (words_from s l b) && meets asks (words_from s l b))) (sym q));
-                  marks = λ y. v.marks known.0 ∙ sym marks_one;
+                  is = sym (right_one ∙ rw (its_ends s l b marks r new v left e, f, its_fresh s l b marks r new v left e, and_yes (right_header t (words_from s l b) && meets asks (words_from s l b))) (sym q));
+                  marks = λ y. v.marks (known s l b marks r new v left e).0 ∙ sym marks_one;
                 }

@@ -1,14 +1,13 @@
 -- A chain that ends well, and what may be read of the letter in it. Assumes nothing.
 use mathlib.Core.Path.{◌≡◌, sym, ap, ◌∙◌}
-use mathlib.Core.Bool.{true, false}
+use mathlib.Core.Bool.{true, false, ◌&&◌}
 use mathlib.Core.List.{List}
 use Prim.Native.Nat.{ℕ, suc, ◌+◌, ◌-◌, ◌*◌, ◌/◌, ◌≤◌, ◌<◌}
 use native.Mathlib.Nat.{suc-mul, mul-le-mul, div-lt_iff_lt-mul}
 use native.Mathlib.Omega.{arith}
 use lib.Dec.{eqb, leb}
 use lib.ListN.{length, get_or, get_or-eq_default}
-use borrow.Author.Tests.{le-leb, lt-leb}
-use Rattle.words.proofs.Lists.{and-true, and-false}
+use Rattle.words.proofs.Lists.{and-true}
 use Rattle.settings.specs.declared.Settings.{Settings}
 use Rattle.layout.specs.Asked.{Stretch}
 use Rattle.blocks.specs.Chain.{needs, chain, text, Within}
@@ -18,6 +17,7 @@ use Rattle.blocks.proofs.Rows.{rows, within_in, text_rows, block-long}
 use Rattle.letters.specs.Letter.{word, letter}
 use Rattle.letters.specs.Asked.{Lies}
 use Rattle.letters.proofs.Laws.{word-text}
+use Rattle.sound.proofs.Tests.{and_assoc}
 use Rattle.sound.proofs.Gives.{all-within}
 use Rattle.sound.proofs.Right.{list-chain, chain_front, right_least, right_most, right_needs, right_chain, right_lies, right_letter_lem, right_word}
 use Rattle.sound.specs.Letters.{chain_from, ends_well, told_length, words_from, right_length}
@@ -78,17 +78,17 @@ module _ (s : Settings) (l : List ℕ) (b n : ℕ) (w : Whole s l b n) where
         word-text s l w.stretch n b 4 (rw whole (ends-within s l b w.ends)) (omega arith)
         ∙ ap (λ (c : List ℕ). get_or (text s l c) 4 0) whole
 
-  pub length-low : told_length s l b < 5 → false ≡ right_length s l b
-  unfolding right_length
-  length-low h = rw (lt-leb 5 (told_length s l b) h)
+  -- the length k that is told
+  module _ (k : ℕ) (e : k ≡ told_length s l b) where
+    length_tests : right_length s l b ≡ (leb 5 k && leb k 1024) && eqb n (needs s k)
+    unfolding right_length
+    length_tests = rw (e, w.count) (sym (and_assoc (leb 5 (told_length s l b)) (leb (told_length s l b) 1024) (eqb (length (chain_from s l b)) (needs s (told_length s l b)))))
 
-  pub length_high : 1024 < told_length s l b → false ≡ right_length s l b
-  unfolding right_length
-  length_high h = rw (lt-leb (told_length s l b) 1024 h) (sym (and-false (leb 5 (told_length s l b))))
+    pub length_out : leb 5 k && leb k 1024 ≡ false → false ≡ right_length s l b
+    length_out g = rw (length_tests, g)
 
-  pub length_is : (k : ℕ) → 5 ≤ told_length s l b → told_length s l b ≤ 1024 → k ≡ needs s (told_length s l b) → eqb n k ≡ right_length s l b
-  unfolding right_length
-  length_is k h g e = rw (le-leb 5 (told_length s l b) h, le-leb (told_length s l b) 1024 g, e, w.count)
+    pub length_is : leb 5 k && leb k 1024 ≡ true → eqb n (needs s k) ≡ right_length s l b
+    length_is g = rw (length_tests, g)
 
 -- ---- a letter whose length is right
 module _ (s : Settings) (l : List ℕ) (b : ℕ) (r : Readable s l b) where
@@ -108,5 +108,5 @@ module _ (s : Settings) (l : List ℕ) (b : ℕ) (r : Readable s l b) where
   pub head_word : (k : ℕ) → k < 5 → word s l b k ≡ get_or (words_from s l b) k 0
   head_word k h = right_word s l r.stretch b r.ends r.long k (omega (arith, told-range.0))
 
-  pub word-lies : (k : ℕ) → k < 5 → Lies s l (k + 1) b
-  word-lies k h = right_lies s l r.stretch b r.ends r.long (k + 1) (omega (arith, told-range.0))
+  pub header_lies : (n : ℕ) → n ≤ 5 → Lies s l n b
+  header_lies n h = right_lies s l r.stretch b r.ends r.long n (omega (arith, told-range.0))

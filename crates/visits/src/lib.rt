@@ -1,9 +1,8 @@
 // Visiting the chains of a node: each block is marked once, and each letter is looked at.
 #![tactic(auto)]
 
-ghost use Rattle.std.specs.Prelude.{◌≡◌, ◌&&◌, [], ◌∷◌, ◌≤◌, length};
+ghost use Rattle.std.specs.Prelude.{◌≡◌, ◌&&◌, [], ◌∷◌, ◌≤◌};
 ghost use Rattle.layout.specs.Asked.{Stretch};
-ghost use Rattle.layout.specs.Places.{table_words};
 ghost use Rattle.queues.specs.Items.{live};
 ghost use Rattle.sound.specs.Letters.{right_length, right_header, words_from};
 ghost use Rattle.sound.specs.Blocks.{chains};
@@ -46,11 +45,8 @@ fn visit_on(
     if b == 0 {
         return Some(owed);
     }
-    if owed == 0 {
-        return None;
-    }
     let at = b as usize;
-    if m < at {
+    if owed == 0 || m < at {
         return None;
     }
     if marks[at] != 0 {
@@ -80,71 +76,53 @@ fn is_right_length(node: &[u32], s: Settings, b: u32, count: usize) -> bool
         return false;
     }
     let n = letters::told_length(node, s, b) as usize;
-    if n < 5 {
-        return false;
-    }
-    if 1024 < n {
-        return false;
-    }
-    count == blocks::needs_of(s, n)
+    (5..=1024).contains(&n) && count == blocks::needs_of(s, n)
 }
 
 // Whether the task is bound, and on that node.
-fn is_on(table: &[u32], task: u32, node: u32) -> bool
-    requires { length table.now ≡ table_words }
+#[tactic(auto, unfolding(crate::specs::Letters::is_on, tasks::specs::Seat::seat_of))]
+fn is_on(table: &[u32; 512], task: u32, node: u32) -> bool
     ensures { result ≡ is_on table.now task node }
 {
-    let Some(seat) = tasks::seat_of(table, task) else {
-        return false;
-    };
-    seat.node == node
+    tasks::seat_of(table, task).is_some_and(|seat| seat.node == node)
 }
 
 // Whether a header is what the place asks for: its source node, its destination task and its destination node.
+#[tactic(auto, unfolding(crate::specs::Letters::is_asked))]
 fn is_asked(asks: Asks, from: u32, task: u32, to: u32) -> bool
     ensures { result ≡ is_asked asks from task to }
 {
     match asks {
         Asks::Any => true,
-        Asks::Between(i, k) => {
-            if from != i {
-                return false;
-            }
-            to == k
-        }
+        Asks::Between(i, k) => from == i && to == k,
         Asks::To(wanted) => task == wanted,
     }
 }
 
 // Whether the letter that block b begins has a header of bound tasks on their nodes, and what its place asks for.
-fn is_right_header(node: &[u32], s: Settings, table: &[u32], asks: Asks, b: u32) -> bool
-    requires readable { Readable s node.now b }
-    requires table_len { length table.now ≡ table_words }
+#[tactic(auto, using(crate::proofs::Read::header_lies, crate::proofs::Judge::header_told))]
+fn is_right_header(node: &[u32], s: Settings, table: &[u32; 512], asks: Asks, b: u32) -> bool
+    requires { Readable s node.now b }
     ensures { result ≡ (right_header table.now (words_from s node.now b) && meets asks (words_from s node.now b)) }
 {
+    let source = letters::word_of(node, s, b, 0);
     let from = letters::word_of(node, s, b, 1);
-    if !is_on(table, letters::word_of(node, s, b, 0), from) {
-        return false;
-    }
     let task = letters::word_of(node, s, b, 2);
     let to = letters::word_of(node, s, b, 3);
-    if !is_on(table, task, to) {
-        return false;
-    }
-    is_asked(asks, from, task, to)
+    is_on(table, source, from) && is_on(table, task, to) && is_asked(asks, from, task, to)
 }
 
 // Whether the letter that block b begins is right for its place and none of its blocks has a mark; marks them. Block 0 is a gap and begins none.
+#[tactic(auto, using(crate::proofs::Judge::gap_judged, crate::proofs::Judge::letter_bad, crate::proofs::Judge::left_least))]
 pub fn is_right_letter(
     node: &[u32],
     s: Settings,
-    table: &[u32],
+    table: &[u32; 512],
     marks: &mut [u8; 1025],
     asks: Asks,
     b: u32,
 ) -> bool
-    requires stretch { Stretch s node.now }
-    requires table_len { length table.now ≡ table_words }
+    requires { Stretch s node.now }
     ensures { Judged (letters_right s node.now table.now asks marks.old (live (b ∷ []))) (marked marks.old (chains s node.now (live (b ∷ [])))) result marks.new }
 {
     if b == 0 {
@@ -153,8 +131,5 @@ pub fn is_right_letter(
     let Some(left) = visit(node, s, marks, b) else {
         return false;
     };
-    if !is_right_length(node, s, b, s.m - left) {
-        return false;
-    }
-    is_right_header(node, s, table, asks, b)
+    is_right_length(node, s, b, s.m - left) && is_right_header(node, s, table, asks, b)
 }

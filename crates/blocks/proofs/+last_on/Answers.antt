@@ -8,9 +8,6 @@ use Rattle.blocks.proofs.+last_on.Goals as goal
 pub returns-then-owed-eq1 : goal.returns-then-owed-eq1
 returns-then-owed-eq1 t c = λ s f. sym (after_none s c.args.node.now.now (c.args.owed - 1) c.args.b (omega arith))
 
-pub overflow_mul-next : goal.overflow_mul-next
-overflow_mul-next t c = let p = c.requires in omega (arith, follow_fits _ _ _ _ _ _ p.1)
-
 pub overflow_add-next : goal.overflow_add-next
 overflow_add-next t c = let p = c.requires in omega (arith, follow_fits _ _ _ _ _ _ p.1)
 

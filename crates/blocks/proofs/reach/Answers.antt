@@ -2,13 +2,14 @@
 use mathlib.Core.Path.{sym, ◌∙◌}
 use native.Mathlib.Omega.{arith}
 use Prim.Native.Nat.{◌-◌}
+use Rattle.blocks.proofs.Named.{block_none, block_some}
 use Rattle.blocks.proofs.Steps.{is_block_lem, nth_none, nth_last, nth_step, within-list}
 use Rattle.blocks.proofs.reach.Goals as goal
 
 pub returns-then-at-eq0 : goal.returns-then-at-eq0
 returns-then-at-eq0 c =
     let i = c.loop.invariant in
-    sym (nth_none c.args.s c.args.node.now i.rest c.loop.at c.if-at-eq0.true) ∙ i.same
+    block_none (sym i.same ∙ nth_none c.args.s c.args.node.now i.rest c.loop.at c.if-at-eq0.true)
 
 pub link_of-at-requires : goal.link_of-at-requires
 link_of-at-requires c =
@@ -29,8 +30,14 @@ loop-preserved c =
       same = rw c.link_of-at.ensures (sym n ∙ i.same);
     }
 
-pub returns : goal.returns
-returns c =
+pub returns-then-at-eq0-2 : goal.returns-then-at-eq0-2
+returns-then-at-eq0-2 c =
     let x = c.args in
     let i = c.loop.invariant in
-    sym (nth_last x.s x.node.now i.rest c.loop.at (omega (arith, i.left, i.reaches.some))) ∙ i.same
+    block_none (sym i.same ∙ nth_last x.s x.node.now i.rest c.loop.at (omega (arith, i.left, i.reaches.some)) ∙ c.if-at-eq0-2.true)
+
+pub returns-else-at-eq0-2 : goal.returns-else-at-eq0-2
+returns-else-at-eq0-2 c =
+    let x = c.args in
+    let i = c.loop.invariant in
+    block_some (sym (nth_last x.s x.node.now i.rest c.loop.at (omega (arith, i.left, i.reaches.some))) ∙ i.same) c.if-at-eq0-2.false

@@ -2,15 +2,9 @@
 use mathlib.Core.Path.{◌≡◌, refl, ◌∙◌}
 use Prim.Native.Nat.{◌+◌, ◌-◌}
 use native.Mathlib.Omega.{arith}
-use Rattle.carrying.proofs.Asks.{all_one, all_next}
-use Rattle.carrying.proofs.Ways.{all_none, all-stop, all_go}
+use Rattle.carrying.proofs.Asks.{all_next}
+use Rattle.carrying.proofs.Ways.{all-stop, all_go}
 use Rattle.carrying.proofs.carry_all.Goals as goal
-
-pub carry-a-requires : goal.carry-a-requires
-carry-a-requires c =
-    let x = c.args in
-    let l = c.loop-letter in
-    all_one x.s l.memory x.j x.i (x.k - l._letter) (x.k - (l._letter + 1)) l.a l.invariant.0 (omega arith)
 
 pub returns-in_default : goal.returns-in_default
 returns-in_default c =
@@ -29,9 +23,3 @@ loop-letter-preserved c =
       all_next x.s l.memory x.j x.i (x.k - l._letter) (x.k - (l._letter + 1)) l.a l.invariant.0 left e d,
       all_go x.s x.j (x.k - l._letter) l.memory x.i l.a _ left e d refl ∙ l.invariant.1,
     )
-
-pub returns : goal.returns
-returns c =
-    let x = c.args in
-    let l = c.loop-letter in
-    all_none x.s x.j (x.k - l._letter) l.memory x.i l.a (omega arith) ∙ l.invariant.1

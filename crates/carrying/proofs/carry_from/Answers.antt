@@ -2,7 +2,7 @@
 use mathlib.Core.Path.{refl, ◌∙◌}
 use native.Mathlib.Omega.{arith}
 use Rattle.carrying.proofs.Asks.{from_all, from_next}
-use Rattle.carrying.proofs.Ways.{nodes_none, nodes-stop, nodes_go}
+use Rattle.carrying.proofs.Ways.{nodes-stop, nodes_go}
 use Rattle.carrying.proofs.carry_from.Goals as goal
 
 pub carry_all-a-requires : goal.carry_all-a-requires
@@ -28,9 +28,3 @@ loop-other-preserved c =
       from_next x.s l.memory x.j l.other l.a l.invariant.0 (omega arith) k e d,
       nodes_go x.s x.j l.memory l.other l.a (omega arith) k e d refl ∙ l.invariant.1,
     )
-
-pub returns : goal.returns
-returns c =
-    let x = c.args in
-    let l = c.loop-other in
-    nodes_none x.s x.j l.memory l.other l.a (omega arith) ∙ l.invariant.1

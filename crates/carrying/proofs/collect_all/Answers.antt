@@ -2,15 +2,9 @@
 use mathlib.Core.Path.{◌≡◌, refl, ◌∙◌}
 use Prim.Native.Nat.{◌+◌, ◌-◌}
 use native.Mathlib.Omega.{arith}
-use Rattle.carrying.proofs.Asks.{back_one, back_next}
-use Rattle.carrying.proofs.Ways.{back_none, back_go}
+use Rattle.carrying.proofs.Asks.{back_next}
+use Rattle.carrying.proofs.Ways.{back_go}
 use Rattle.carrying.proofs.collect_all.Goals as goal
-
-pub collect-a-requires : goal.collect-a-requires
-collect-a-requires c =
-    let x = c.args in
-    let l = c.loop-item in
-    back_one x.s l.memory x.j x.i (x.k - l._item) l.a l.invariant.0 (x.k - (l._item + 1)) (omega arith)
 
 pub loop-item-preserved : goal.loop-item-preserved
 loop-item-preserved c =
@@ -21,9 +15,3 @@ loop-item-preserved c =
       back_next x.s l.memory x.j x.i (x.k - l._item) l.a l.invariant.0 (x.k - (l._item + 1)) left e,
       back_go x.s x.j l.memory x.i l.a (x.k - l._item) _ left e refl ∙ l.invariant.1,
     )
-
-pub returns : goal.returns
-returns c =
-    let x = c.args in
-    let l = c.loop-item in
-    back_none x.s x.j l.memory x.i l.a (x.k - l._item) (omega arith) ∙ l.invariant.1

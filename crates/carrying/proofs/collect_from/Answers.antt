@@ -2,7 +2,7 @@
 use mathlib.Core.Path.{refl, ◌∙◌}
 use native.Mathlib.Omega.{arith}
 use Rattle.carrying.proofs.Asks.{backs_all, backs_next}
-use Rattle.carrying.proofs.Ways.{backs_none, backs_go}
+use Rattle.carrying.proofs.Ways.{backs_go}
 use Rattle.carrying.proofs.collect_from.Goals as goal
 
 pub collect_all-a-requires : goal.collect_all-a-requires
@@ -20,9 +20,3 @@ loop-other-preserved c =
       backs_next x.s l.memory x.j l.other l.a l.invariant.0 (omega arith) k e,
       backs_go x.s x.j l.memory l.other l.a (omega arith) k e refl ∙ l.invariant.1,
     )
-
-pub returns : goal.returns
-returns c =
-    let x = c.args in
-    let l = c.loop-other in
-    backs_none x.s x.j l.memory l.other l.a (omega arith) ∙ l.invariant.1

@@ -5,9 +5,4 @@ use Rattle.gaps.proofs.append.Goals as goal
 pub append-requires : goal.append-requires
 append-requires c =
     let x = c.args in
-    rw (c.task_kind-k.ensures, c.make_room.ensures) (queue-roomy x.s x.node.now x.q c.requires)
-
-pub returns : goal.returns
-returns c =
-    let e = c.append.ensures in
-    (rw (c.task_kind-k.ensures, c.make_room.ensures) at e.0, rw (c.task_kind-k.ensures, c.make_room.ensures) at e.1)
+    rw (c.task.ensures, c.make_room.ensures) (queue-roomy x.s x.node.now x.q c.requires)

@@ -15,6 +15,6 @@ loop-i-preserved c =
     let o = c.loop-i in
     let p = c.item-x.ensures in
     elim c.if-x-ne0.branch [
-      | then-x-ne0 w ↦ (omega arith, rw (w.row-is, w.n-is) (gather_some x.k x.node.now x.q o.i o.invariant.1 p w.if-x-ne0.true (omega arith)))
-      | else-x-ne0 w ↦ (omega arith, rw (w.row-is, w.n-is) (gather_zero x.k x.node.now x.q o.i o.invariant.1 p w.if-x-ne0.false))
+      | then-x-ne0 w ↦ (omega arith, rw (w.row-is, w.n-is) (gather_some x.queue.kind x.node.now x.queue.at o.i o.invariant.1 p w.if-x-ne0.true (omega arith)))
+      | else-x-ne0 w ↦ (omega arith, rw (w.row-is, w.n-is) (gather_zero x.queue.kind x.node.now x.queue.at o.i o.invariant.1 p w.if-x-ne0.false))
     ]

@@ -6,4 +6,4 @@ use Prim.Native.Nat.{◌≤◌}
 use Rattle.gaps.proofs.gather.Given as goal
 
 abbrev pub invariant-loop-i : goal.invariant-loop-i
-invariant-loop-i l = (l.n ≤ l.i) × Row (live (run l.k l.node l.q 0 l.i)) l.row l.n
+invariant-loop-i l = (l.n ≤ l.i) × Row (live (run l.queue.kind l.node l.queue.at 0 l.i)) l.row l.n

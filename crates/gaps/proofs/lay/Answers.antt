@@ -11,4 +11,4 @@ loop-i-init c = refl
 pub loop-i-preserved : goal.loop-i-preserved
 loop-i-preserved c =
     let x = c.args in
-    laid_more x.k x.node.now x.q x.row.now c.loop-i.i c.loop-i.invariant c.slot_at-at.ensures.is
+    laid_more x.queue.kind x.node.now x.queue.at x.row.now c.loop-i.i c.loop-i.invariant c.slot.ensures.is

@@ -4,4 +4,4 @@ use mathlib.Core.Path.{◌≡◌}
 use Rattle.gaps.proofs.lay.Given as goal
 
 abbrev pub invariant-loop-i : goal.invariant-loop-i
-invariant-loop-i l = l.node ≡ laid l.k l.initial.node l.q l.row l.i
+invariant-loop-i l = l.node ≡ laid l.queue.kind l.initial.node l.queue.at l.row l.i

@@ -2,11 +2,8 @@
 use mathlib.Core.Path.{◌∙◌}
 use Prim.Native.Nat.{◌*◌}
 use Rattle.layout.specs.Numbers.{list_words}
-use Rattle.listing.proofs.Laying.{six, letter-room, letter_none}
+use Rattle.listing.proofs.Laying.{six, letter-room}
 use Rattle.listing.proofs.lay.Goals as goal
 
 pub returns-then-at-out : goal.returns-then-at-out
 returns-then-at-out c = let x = c.args in six x.x x.out.now (x.n * list_words) _ c.copy_from_slice.ensures.after c.if-at-out.true ∙ letter-room x.x x.n x.out.now c.if-at-out.true
-
-pub returns-else-at-out : goal.returns-else-at-out
-returns-else-at-out c = let x = c.args in letter_none x.x x.n x.out.now c.if-at-out.false

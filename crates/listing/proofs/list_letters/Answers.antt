@@ -7,12 +7,9 @@ use Rattle.listing.proofs.Letters.{letters_all}
 use Rattle.listing.proofs.Placing.{rows, so_low}
 use Rattle.listing.proofs.list_letters.Goals as goal
 
-pub list_tasks-requires : goal.list_tasks-requires
-list_tasks-requires c = record { asked = c.requires.asked; low = record { long = c.requires.low.long; few = λ t. omega (arith, c.requires.low.few t) } }
-
-pub list_nodes-requires : goal.list_nodes-requires
-list_nodes-requires c =
-    record { asked = c.requires.asked; low = so_low (kept_below c.args.s c.args.memory.now task_ids) c.args.ranks.now c.args.out.now _ _ c.list_tasks.ensures _ _ c.requires.low (omega (arith, few_below c.args.s c.args.memory.now c.requires.asked 256)) }
+pub list_nodes-requires-clause-low : goal.list_nodes-requires-clause-low
+list_nodes-requires-clause-low c =
+    so_low (kept_below c.args.s c.args.memory.now task_ids) c.args.ranks.now c.args.out.now _ _ c.list_tasks.ensures _ _ c.requires.low (omega (arith, few_below c.args.s c.args.memory.now c.requires.asked 256))
 
 pub returns : goal.returns
 returns c = let x = c.args in letters_all x.s x.memory.now (rows x.ranks.now x.out.now) _ _ c.list_tasks.ensures c.list_nodes.ensures

@@ -10,7 +10,7 @@ use Rattle.listing.proofs.list_send_queue.Given as goal
 
 abbrev pub invariant-loop-c : goal.invariant-loop-c
 invariant-loop-c l = record {
-  within : l.c - l.first ≤ l.count - l.first;
-  read : Read l.s l.memory l.j (send_kind l.s) (send_at l.s l.i) l.k l.at l.count;
+  within : l.c - l.first ≤ l.c-end - l.first;
+  read : Read l.s l.memory l.j (send_kind l.s) (send_at l.s l.i) l.node l.queue.kind l.queue.at l.c-end;
   laid : rows l.ranks l.out ≡ placed (sent_from l.s l.memory l.j (run (send_kind l.s) (node l.s l.memory l.j) (send_at l.s l.i) l.first (l.c - l.first))) (rows l.initial.ranks l.initial.out);
 }

@@ -11,6 +11,6 @@ use Rattle.listing.proofs.list_task_queue.Given as goal
 
 abbrev pub invariant-loop-c : goal.invariant-loop-c
 invariant-loop-c l = record {
-  read : Read l.s l.memory l.i (task_kind l.s) (task_at l.s l.q) l.k l.at l.count;
+  read : Read l.s l.memory l.i (task_kind l.s) (task_at l.s l.q) l.node l.queue.kind l.queue.at l.c-end;
   laid : rows l.ranks l.out ≡ placed (from_task l.s l.memory l.task l.i (live (run (task_kind l.s) (node l.s l.memory l.i) (task_at l.s l.q) 0 l.c))) (rows l.initial.ranks l.initial.out);
 }

@@ -3,4 +3,4 @@ use Rattle.places.proofs.Turns.{Turn}
 use Rattle.places.proofs.are_right_letters.Given as goal
 
 abbrev pub invariant-loop-c : goal.invariant-loop-c
-invariant-loop-c l = Turn l.s l.stretch l.table l.asks l.k l.queue l.q l.initial.marks l.marks l.c l.count
+invariant-loop-c l = Turn l.s l.stretch l.table l.asks l.queue.kind l.holding l.queue.at l.initial.marks l.marks l.c l.count

@@ -22,4 +22,4 @@ pub returns : goal.returns
 returns c =
     let x = c.args in
     hand_range x.s x.memory.now x.i x.marks.now _ _
-    (judged_place x.s x.memory.now x.i 0 Any (hand_asks x.s x.memory.now x.i c.requires.looked c.requires.i_lt_nodes) x.marks.now _ _ _ (begun-held x.s x.memory.now x.i c.requires.looked c.requires.i_lt_nodes c.if-memory-at-ne2.false) (rw (c.stretch-stretch.ensures.0, c.table.ensures.0) at c.is_right_letter.ensures))
+    (judged_place x.s x.memory.now x.i 0 Any (hand_asks x.s x.memory.now x.i c.requires.looked c.requires.i_lt_nodes) x.marks.now _ _ _ (begun-held x.s x.memory.now x.i c.requires.looked c.requires.i_lt_nodes c.if-memory-at-ne2.false) (rw (c.stretch-stretch.ensures.0, c.table.ensures) at c.is_right_letter.ensures))

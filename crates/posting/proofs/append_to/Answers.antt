@@ -9,14 +9,14 @@ task_at-at-requires c = record { in_range = c.requires.stretch.range; q_bound = 
 pub append-requires : goal.append-requires
 append-requires c = rw c.task_at-at.ensures.is (queued_task c.args.s c.args.node.now c.args.goal c.requires.queue _ c.in-Task.is).1.queue
 
-pub send_at-at-requires : goal.send_at-at-requires
-send_at-at-requires c = record { in_range = c.requires.stretch.range; k_bound = (queued-node c.args.s c.args.node.now c.args.goal c.requires.queue _ c.in-Node.is).0 }
+pub send-requires : goal.send-requires
+send-requires c = record { in_range = c.requires.stretch.range; k_bound = (queued-node c.args.s c.args.node.now c.args.goal c.requires.queue _ c.in-Node.is).0 }
 
 pub append-requires-in-Node : goal.append-requires-in-Node
-append-requires-in-Node c = rw (c.send_kind.ensures, c.send_at-at.ensures.is) (queued-node c.args.s c.args.node.now c.args.goal c.requires.queue _ c.in-Node.is).1
+append-requires-in-Node c = rw (c.send.ensures.kind, c.send.ensures.at.is) (queued-node c.args.s c.args.node.now c.args.goal c.requires.queue _ c.in-Node.is).1
 
 pub returns-in-Task : goal.returns-in-Task
 returns-in-Task c = appended_task c.args.s c.args.node.now c.args.goal _ _ _ c.args.b c.in-Task.is c.task_at-at.ensures.is c.append.ensures.0
 
 pub returns-in-Node : goal.returns-in-Node
-returns-in-Node c = appended-node c.args.s c.args.node.now c.args.goal _ _ _ c.args.b c.in-Node.is c.send_at-at.ensures.is (rw c.send_kind.ensures at c.append-in-Node.ensures.0)
+returns-in-Node c = appended-node c.args.s c.args.node.now c.args.goal _ _ _ c.args.b c.in-Node.is c.send.ensures.at.is (rw c.send.ensures.kind at c.append-in-Node.ensures.0)

@@ -12,4 +12,4 @@ pub reach-requires : goal.reach-requires
 reach-requires c = record { stretch = c.requires.stretch; some = c.requires.some; within = front_within c.args.s c.args.node.now c.args.n c.requires }
 
 pub returns : goal.returns
-returns c = blocks-there c.args.s c.args.node.now c.args.n c.requires _ c.reach.ensures
+returns c = blocks-there c.args.s c.args.node.now c.args.n c.requires c.reach.ensures c.is_some.ensures

@@ -19,8 +19,5 @@ returns-then-not-has_blocks c = post-few c.args.s c.args.node.now c.args.goal (l
 pub returns-then-not-has_room : goal.returns-then-not-has_room
 returns-then-not-has_room c = post_full c.args.s c.args.node.now c.args.goal (letter_of c.args.header c.args.body.now) _ (c.needs_of-n.ensures ∙ needs_made c.args.header c.args.body.now c.args.s) _ (sym (c.if-not-has_blocks.false) ∙ c.has_blocks.ensures) (sym (c.if-not-has_room.true) ∙ c.has_room.ensures) c.count_full.ensures
 
-pub put_in-requires : goal.put_in-requires
-put_in-requires c = record { posts = c.requires; has = rw c.needs_of-n.ensures at (sym c.has_blocks.ensures ∙ c.if-not-has_blocks.false) }
-
 pub returns : goal.returns
 returns c = post-done c.args.s c.args.node.now c.args.goal (letter_of c.args.header c.args.body.now) _ (c.needs_of-n.ensures ∙ needs_made c.args.header c.args.body.now c.args.s) _ (sym (c.if-not-has_blocks.false) ∙ c.has_blocks.ensures) (sym (c.if-not-has_room.false) ∙ c.has_room.ensures) c.put_in.ensures

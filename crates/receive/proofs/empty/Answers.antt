@@ -10,9 +10,6 @@ overflow_add-n c = omega (arith, leaves_most c.args.s c.args.node.now c.args.q c
 pub needs_of-owed-requires : goal.needs_of-owed-requires
 needs_of-owed-requires c = record { in_range = c.requires.holds.letter.stretch.range; n_bound = omega (arith, leaves_most c.args.s c.args.node.now c.args.q c.args.k c.args.b c.args.n c.requires) }
 
-pub take_out-requires : goal.take_out-requires
-take_out-requires c = rw c.task_at-at.ensures.is c.requires.holds.place
-
 pub give_back-requires : goal.give_back-requires
 give_back-requires c = let both = leaves_walks c.args.s c.args.node.now c.args.q c.args.k c.args.b c.args.n c.requires c.needs_of-owed.ensures c.task_at-at.ensures.is c.take_out.ensures (omega arith) (omega arith) in record { walks = both.0; le_owed = both.1 }
 

@@ -5,8 +5,5 @@ use Rattle.receive.proofs.is_filled.Goals as goal
 pub returns-then-source-eq0 : goal.returns-then-source-eq0
 returns-then-source-eq0 c = let x = c.args in filled_any x.s x.node.now x.q x.source c.if-source-eq0.true
 
-pub items_of-items-requires : goal.items_of-items-requires
-items_of-items-requires c = rw (c.task_kind.ensures, c.task_at-at.ensures.is) c.requires.queue
-
 pub returns : goal.returns
-returns c = let x = c.args in filled_one x.s x.node.now x.q x.source c.if-source-eq0.false c.task_at-at.ensures.is c.items_of-items.ensures
+returns c = let x = c.args in filled_one x.s x.node.now x.q x.source c.if-source-eq0.false c.task.ensures.at.is c.items.ensures

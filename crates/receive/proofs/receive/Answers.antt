@@ -5,6 +5,3 @@ use Rattle.receive.proofs.receive.Goals as goal
 
 pub returns-then-not-is_sound : goal.returns-then-not-is_sound
 returns-then-not-is_sound c = let x = c.args in not_sound_lem x.memory.now x.destination x.source x.out.now (sym c.is_sound.ensures ∙ c.if-not-is_sound.true)
-
-pub receive_sound-requires : goal.receive_sound-requires
-receive_sound-requires c = sym c.is_sound.ensures ∙ c.if-not-is_sound.false

@@ -3,17 +3,11 @@ use Rattle.receive.proofs.Outcomes.{holds-whole, at_short, at_done}
 use Rattle.receive.proofs.Bodies.{lies_first}
 use Rattle.receive.proofs.take_at.Goals as goal
 
-pub body_length-length-requires : goal.body_length-length-requires
-body_length-length-requires c = holds-whole c.args.s c.args.node.now c.args.q c.args.k c.requires c.first_block-b.ensures
-
 pub returns-then-out-n : goal.returns-then-out-n
 returns-then-out-n c = at_short c.args.s c.args.node.now c.args.q c.args.k c.requires c.first_block-b.ensures c.body_length-length.ensures c.args.out.now c.if-out-n.true
 
 pub word_of-source-requires : goal.word_of-source-requires
 word_of-source-requires c = lies_first c.args.s c.args.node.now _ (holds-whole c.args.s c.args.node.now c.args.q c.args.k c.requires c.first_block-b.ensures)
-
-pub read_body-requires : goal.read_body-requires
-read_body-requires c = record { letter = holds-whole c.args.s c.args.node.now c.args.q c.args.k c.requires c.first_block-b.ensures; words = c.body_length-length.ensures; room = c.if-out-n.false }
 
 pub returns : goal.returns
 returns c = at_done c.args.s c.args.node.now c.args.q c.args.k c.requires c.first_block-b.ensures c.body_length-length.ensures c.args.out.now c.if-out-n.false c.word_of-source.ensures c.empty.ensures c.read_body.ensures

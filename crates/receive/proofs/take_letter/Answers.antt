@@ -1,10 +1,7 @@
 -- `receive::take_letter` meets its contract: by what is found. Assumes nothing.
-use Rattle.receive.proofs.Outcomes.{kept_findable, found-holds, found-took, vain_took}
+use Rattle.receive.proofs.Outcomes.{found-holds, found-took, vain_took}
 use mathlib.Core.Path.{sym, ◌∙◌}
 use Rattle.receive.proofs.take_letter.Goals as goal
-
-pub find-requires : goal.find-requires
-find-requires c = kept_findable c.args.s c.args.node.now c.args.q c.args.source c.requires c.task_at-at.ensures.is
 
 pub take_at-requires : goal.take_at-requires
 take_at-requires c = found-holds c.args.s c.args.node.now c.args.q c.args.source c.requires c.task_at-at.ensures.is _ (sym c.find.ensures ∙ c.in-Some.is)

@@ -1,7 +1,7 @@
 -- `script::fill` meets its contract: after i turns the first i words rise. Assumes nothing.
-use Rattle.std.proofs.Common.{◌≡◌, length, refl, ◌∙◌, arith}
+use Rattle.std.proofs.Common.{refl, arith}
 use Rattle.script.specs.Words.{rising}
-use Rattle.script.proofs.Laws.{rising_more, rising_all, rising_first, rising_next}
+use Rattle.script.proofs.Laws.{rising_more, rising_first, rising_next}
 use Rattle.script.proofs.fill.Goals as goal
 
 pub loop-word-init : goal.loop-word-init
@@ -15,10 +15,3 @@ loop-word-preserved c =
       rw l.invariant.0 (rising_more x.f l.word-index l.next x.words.now (omega arith) l.invariant.1),
       rising_next x.f l.word-index l.next _ l.invariant.1 refl,
     )
-
-pub returns : goal.returns
-returns c =
-    let l = c.loop-word in
-    let x = c.args in
-    let q : l.word-index ≡ length x.words.now = omega arith in
-    l.invariant.0 ∙ rw q (rising_all x.f (length x.words.now) x.words.now refl)

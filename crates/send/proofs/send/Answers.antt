@@ -5,6 +5,3 @@ use Rattle.send.proofs.send.Goals as goal
 
 pub returns-then-not-is_sound : goal.returns-then-not-is_sound
 returns-then-not-is_sound c = let x = c.args in not_sound_lem x.memory.now x.source x.destination x.body.now (sym c.is_sound.ensures ∙ c.if-not-is_sound.true)
-
-pub send_sound-requires : goal.send_sound-requires
-send_sound-requires c = sym c.is_sound.ensures ∙ c.if-not-is_sound.false

@@ -8,4 +8,4 @@ use Rattle.shapes.specs.Shape.{right_post}
 use Rattle.shapes.proofs.are_right_posts.Given as goal
 
 abbrev pub invariant-loop-k : goal.invariant-loop-k
-invariant-loop-k l = every l.k (λ k. right_post l.kind l.node (l.first + k * (l.kind.head + l.kind.slots)) l.m (eqb k l.i)) ≡ true
+invariant-loop-k l = every l.k (λ k. right_post l.first.kind l.node (l.first.at + k * (l.first.kind.head + l.first.kind.slots)) l.m (eqb k l.i)) ≡ true

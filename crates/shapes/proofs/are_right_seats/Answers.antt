@@ -11,13 +11,13 @@ pub returns-then-not-is_right_seat : goal.returns-then-not-is_right_seat
 unfolding right_seats
 returns-then-not-is_right_seat c =
     turn_no _ 64 c.loop-q.q (omega arith) c.is_right_seat.result
-    (rw (← c.task_kind-kind.ensures, ← c.task_at-at.ensures.is) c.is_right_seat.ensures)
+    (rw (← c.task.ensures.kind, ← c.task.ensures.at.is) c.is_right_seat.ensures)
     (c.if-not-is_right_seat.true)
 
 pub loop-q-preserved : goal.loop-q-preserved
 loop-q-preserved c =
     turn_more _ 64 c.loop-q.q c.loop-q.invariant c.is_right_seat.result
-    (rw (← c.task_kind-kind.ensures, ← c.task_at-at.ensures.is) c.is_right_seat.ensures)
+    (rw (← c.task.ensures.kind, ← c.task.ensures.at.is) c.is_right_seat.ensures)
     (c.if-not-is_right_seat.false)
 
 pub returns : goal.returns

@@ -6,4 +6,4 @@ use Rattle.shapes.specs.Shape.{items_within}
 use Rattle.shapes.proofs.are_within.Given as goal
 
 abbrev pub invariant-loop-i : goal.invariant-loop-i
-invariant-loop-i l = items_within l.least l.most (contents l.k l.node l.q) ≡ items_within l.least l.most (run l.k l.node l.q l.i (l.count - l.i))
+invariant-loop-i l = items_within l.least l.most (contents l.queue.kind l.node l.queue.at) ≡ items_within l.least l.most (run l.queue.kind l.node l.queue.at l.i (l.i-end - l.i))

@@ -9,9 +9,9 @@ pub returns-then-count-eq0 : goal.returns-then-count-eq0
 returns-then-count-eq0 c =
     c.are_zero.ensures ∙ clear_none _ _ _ _ _ c.requires.first_value c.requires.count_value c.if-count-eq0.true
 
-pub returns-then-k-end : goal.returns-then-k-end
-returns-then-k-end c =
-    c.are_zero-then-k-end.ensures ∙ clear_round _ _ _ _ _ c.requires.first_value c.requires.count_value (omega arith)
+pub returns-then-slots-end : goal.returns-then-slots-end
+returns-then-slots-end c =
+    c.are_zero-then-slots-end.ensures ∙ clear_round _ _ _ _ _ c.requires.first_value c.requires.count_value (omega arith)
 
 pub returns-then-are_zero : goal.returns-then-are_zero
 returns-then-are_zero c =

@@ -12,8 +12,8 @@ returns-then-other-gt5 c =
       | then-other-gt5-via-else-other-gt5+then-other-j w ↦ other_own x.s x.memory.now x.j x.other w.if-other-j.true
     ]
 
-pub items_of-requires : goal.items_of-requires
-items_of-requires c = let x = c.args in other-queue x.s x.memory.now x.j x.other c.requires.queued c.requires.j_bound (omega arith) _ _ _ c.send_kind.ensures c.send_at-q.ensures.is c.stretch-theirs.ensures.0
+pub items-requires : goal.items-requires
+items-requires c = let x = c.args in other-queue x.s x.memory.now x.j x.other c.requires.queued c.requires.j_bound (omega arith) _ _ _ c.send.ensures.kind c.send.ensures.at.is c.stretch-theirs.ensures.0
 
 pub returns : goal.returns
-returns c = let x = c.args in other_is x.s x.memory.now x.j x.other c.requires.queued c.requires.j_bound (omega arith) _ _ _ c.send_kind.ensures c.send_at-q.ensures.is c.stretch-theirs.ensures.0 c.if-other-j.false _ c.items_of.ensures
+returns c = let x = c.args in other_is x.s x.memory.now x.j x.other c.requires.queued c.requires.j_bound (omega arith) _ _ _ c.send.ensures.kind c.send.ensures.at.is c.stretch-theirs.ensures.0 c.if-other-j.false _ c.items.ensures

@@ -11,5 +11,5 @@ table-requires c = omega (arith, c.requires.long, nodes_fit c.args.s)
 
 pub is_right_seated-requires-clause-seats : goal.is_right_seated-requires-clause-seats
 is_right_seated-requires-clause-seats c =
-    let e = rw c.table.ensures.0 at c.seat_tasks.ensures in
+    let e = rw c.table.ensures at c.seat_tasks.ensures in
     row-seats (table_in c.args.memory.now) (sym e.answer ∙ c.if-seat_tasks.true) _ (e.row c.if-seat_tasks.true)

@@ -5,11 +5,11 @@ use Rattle.stages.proofs.put_ack.Goals as goal
 pub first_of-x-requires : goal.first_of-x-requires
 first_of-x-requires c = stands_first c.args.s c.args.memory.now c.args.j c.args.i c.requires
 
-pub ack_at-q-requires : goal.ack_at-q-requires
-ack_at-q-requires c = let both = stands-range c.args.s c.args.memory.now c.args.j c.args.i c.requires in record { in_range = both.0; k_bound = both.1 }
+pub ack-requires : goal.ack-requires
+ack-requires c = let both = stands-range c.args.s c.args.memory.now c.args.j c.args.i c.requires in record { in_range = both.0; k_bound = both.1 }
 
 pub append_in-done-requires : goal.append_in-done-requires
-append_in-done-requires c = stands_ack c.args.s c.args.memory.now c.args.j c.args.i c.requires c.ack_kind.ensures c.ack_at-q.ensures.is
+append_in-done-requires c = stands_ack c.args.s c.args.memory.now c.args.j c.args.i c.requires c.ack.ensures.kind c.ack.ensures.at.is
 
 pub returns : goal.returns
-returns c = acknowledged_is c.args.s c.args.memory.now c.args.j c.args.i c.requires c.ack_kind.ensures c.ack_at-q.ensures.is c.first_of-x.ensures c.append_in-done.ensures.0 c.append_in-done.ensures.1 c.stage_of.ensures
+returns c = acknowledged_is c.args.s c.args.memory.now c.args.j c.args.i c.requires c.ack.ensures.kind c.ack.ensures.at.is c.first_of-x.ensures c.append_in-done.ensures.0 c.append_in-done.ensures.1 c.stage_of.ensures

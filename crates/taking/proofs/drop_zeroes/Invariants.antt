@@ -5,7 +5,7 @@ use mathlib.Core.Path.{◌≡◌}
 use Rattle.taking.proofs.drop_zeroes.Given as goal
 
 abbrev pub invariant-loop-node : goal.invariant-loop-node
-invariant-loop-node l = Queue l.k l.node l.q × (cleared l.k l.q (items l.k l.node l.q) l.node ≡ cleared l.k l.q (items l.k l.initial.node l.q) l.initial.node)
+invariant-loop-node l = Queue l.queue.kind l.node l.queue.at × (cleared l.queue.kind l.queue.at (items l.queue.kind l.node l.queue.at) l.node ≡ cleared l.queue.kind l.queue.at (items l.queue.kind l.initial.node l.queue.at) l.initial.node)
 
 abbrev pub decreases-loop-node : goal.decreases-loop-node
-decreases-loop-node l = items l.k l.node l.q
+decreases-loop-node l = items l.queue.kind l.node l.queue.at

@@ -6,4 +6,4 @@ use mathlib.Core.Path.{◌≡◌}
 use Rattle.taking.proofs.gap_flag.Given as goal
 
 abbrev pub invariant-loop-i : goal.invariant-loop-i
-invariant-loop-i l = gap_flag (run l.k l.node l.q l.i (l.items - l.i)) ≡ gap_flag (contents l.k l.node l.q)
+invariant-loop-i l = gap_flag (run l.queue.kind l.node l.queue.at l.i (l.i-end - l.i)) ≡ gap_flag (contents l.queue.kind l.node l.queue.at)

@@ -4,15 +4,12 @@ use Rattle.taking.proofs.Turns.{taken_is}
 use Rattle.taking.proofs.Taken.{queue-out}
 use Rattle.taking.proofs.take_out.Goals as goal
 
-pub take-requires : goal.take-requires
-take-requires c = rw c.task_kind-k.ensures c.requires
-
 pub gap_flag-flag-requires : goal.gap_flag-flag-requires
 gap_flag-flag-requires c =
     let x = c.args in
-    rw (c.take.ensures, c.task_kind-k.ensures) (queue-out (task_kind x.s) x.node.now x.q x.i c.requires)
+    rw (c.take.ensures, c.task.ensures) (queue-out (task_kind x.s) x.node.now x.q x.i c.requires)
 
 pub returns : goal.returns
 returns c =
     let x = c.args in
-    taken_is x.s x.node.now x.q x.i c.task_kind-k.ensures c.take.ensures c.gap_flag-flag.ensures
+    taken_is x.s x.node.now x.q x.i c.task.ensures c.take.ensures c.gap_flag-flag.ensures
