@@ -60,7 +60,8 @@ fn acks_for(memory: &[u32], s: Settings, j: usize, i: usize) -> usize
     QueueAt::ack(s, j).items(layout::stretch(memory, s, i))
 }
 
-// Memory, settings, nodes and turn so far go one by one: a struct that holds a lent memory would lend it twice, no plainer.
+// Memory, settings, nodes and turn so far go one by one below: a struct that holds a lent memory would lend it twice, no plainer.
+
 // Stage 3 on: acknowledges node i's first letter, and drops the send item.
 #[tactic(auto, using(crate::proofs::Asks::hand_there), unfolding(stages_keep::specs::Steps::handed_on, postman::specs::Round::stage))]
 pub fn hand_on(memory: &mut [u32], s: Settings, j: usize, i: usize, r: Round) -> Round
@@ -145,7 +146,7 @@ fn collect(memory: &mut [u32], s: Settings, j: usize, i: usize, r: Round) -> Rou
     r.blocks_back(n)
 }
 
-// Step 1 on node i: k items. (No step here stops; one loop for this and carry_all would take a closure with clauses, and is no plainer.)
+// Step 1 on node i: k items. (No step here stops, so this and collect_from stand beside carry_all and carry_from: one loop would take a closure with clauses, no plainer.)
 #[tactic(auto, using(crate::proofs::Ways::back_none))]
 fn collect_all(memory: &mut [u32], s: Settings, j: usize, i: usize, k: usize, r: Round) -> Round
     requires { Collects s memory.old j i k r }

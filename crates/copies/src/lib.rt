@@ -68,7 +68,7 @@ fn is_right_copy(memory: &[u32], s: Settings, j: usize) -> bool
     is_same_letter(own, held, theirs, first, s)
 }
 
-// The same of every node.
+// The same of every node. (A chain over 0..6 would have a closure with a clause on j, no plainer.)
 pub fn are_right_copies(memory: &[u32], s: Settings) -> bool
     requires { Lettered s memory.now }
     ensures { result ≡ every nodes (copy_right s memory.now) }

@@ -20,9 +20,7 @@ fn link_in(memory: &[u32], s: Settings, i: usize, b: u32) -> u32
     requires block { Block s (stretch s memory.now i) b }
     ensures { result ≡ link s (stretch s memory.now i) b }
 {
-    let a = layout::node_at(s, i);
-    let e = a + layout::node_size(s);
-    blocks::link_of(&memory[a..e], s, b)
+    blocks::link_of(layout::stretch(memory, s, i), s, b)
 }
 
 // Copies n words of the memory over n others.

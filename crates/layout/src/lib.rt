@@ -39,7 +39,7 @@ pub fn memory_size(s: Settings) -> usize
     536 + 6 * node_size(s)
 }
 
-// The first word of node i's stretch.
+// The first word of node i's stretch. A node goes by its number, below 6 by a clause: a type for it would be made at each turn of a loop, no plainer.
 pub fn node_at(s: Settings, i: usize) -> usize
     requires in_range { InRange s }
     requires i_bound { i < 6 }

@@ -41,6 +41,8 @@ pub fn first_of(memory: &[u32], s: Settings, i: usize, j: usize) -> u32
     QueueAt::send(s, j).item(layout::stretch(memory, s, i), 0)
 }
 
+// The functions below lend a stretch to be changed where it is used: one that handed a `&mut` part back would be spoken of by starred clauses, no plainer.
+
 // Puts an item behind the last of a queue of node i.
 pub fn append_in(
     memory: &mut [u32],

@@ -72,7 +72,7 @@ pub fn read(node: &[u32], s: Settings, b: u32, at: usize, out: &mut [u32])
     }
 }
 
-// The two tasks of a letter, each with its node.
+// The two tasks of a letter, each with its node. The body goes beside it: of a struct that holds a lent body each clause would say `letter.entry.body.now`, no plainer.
 #[derive(Clone, Copy, Debug, PartialEq, Eq)]
 pub struct Header {
     pub source: u32,

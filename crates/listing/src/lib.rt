@@ -169,6 +169,7 @@ fn list_nodes(memory: &[u32], s: Settings, ranks: &mut [u32; 256], out: &mut [u3
     requires low { Low ranks.old (nodes * nodes * 255) }
     ensures { record { ranks = ranks.new; out = out.new } ≡ placed (sent_below s memory.now (nodes * nodes)) (record { ranks = ranks.old; out = out.old }) }
 {
+    // 36 send queues by one number: a loop a function
     for c in 0..36 {
         list_send_queue(memory, s, c / 6, c % 6, ranks, out);
     }

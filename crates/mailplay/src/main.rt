@@ -99,7 +99,7 @@ struct InUse {
     ghost table_fits: { table ≤ TABLE_WORDS },
 }
 
-// What a script is played on; the paper has the body or the out of a call.
+// What a script is played on, in fixed memory: there is no heap. The paper has the body or the out of a call.
 #[derive(Drop)]
 struct Player {
     memory: [u32; MEMORY_WORDS],
@@ -110,6 +110,7 @@ struct Player {
 
 // Of two fields lent at a time each is lent whole before its part is taken: two parts are not lent side by side.
 impl Player {
+    // Kind 1.
     fn set_up(&mut self, to: &impl Print, words: [u32; 5]) -> Result<(), ScriptError> {
         let [b, m, s, a, t] = words;
         let memory = &mut self.memory[..];
@@ -119,6 +120,7 @@ impl Player {
         print_line(to, answers::answer_to(answer), memory, 0)
     }
 
+    // Kind 2.
     fn send(&mut self, to: &impl Print, words: [u32; 5]) -> Result<(), ScriptError> {
         let [source, destination, n, f, _] = words;
         let n = within(n, BODY_WORDS)?;
@@ -131,6 +133,7 @@ impl Player {
         print_line(to, answers::answer_to(answer), memory, 0)
     }
 
+    // Kind 3.
     fn receive(&mut self, to: &impl Print, words: [u32; 5]) -> Result<(), ScriptError> {
         let [destination, source, n, f, _] = words;
         let n = within(n, BODY_WORDS)?;
@@ -143,12 +146,14 @@ impl Player {
         print_line(to, answers::answer_to(answer), memory, script::sum(out))
     }
 
+    // Kind 4.
     fn turn(&mut self, to: &impl Print) -> Result<(), ScriptError> {
         let memory = &mut self.memory[..self.in_use.memory];
         let answer = turn::turn(memory);
         print_line(to, answers::answer_to(answer), memory, 0)
     }
 
+    // Kind 5.
     fn list(&mut self, to: &impl Print, words: [u32; 5]) -> Result<(), ScriptError> {
         let [n, f, ..] = words;
         let n = within(n, PAPER_WORDS)?;

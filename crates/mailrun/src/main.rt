@@ -52,7 +52,7 @@ fn play(memory: &mut [u32], bytes: &[u8]) -> Answer
     let Ok(bytes) = <&[u8; 8]>::try_from(bytes) else {
         return answers::bare(12);
     };
-    // one match on the byte: an enum of kinds would be made by one match and taken apart by another, no plainer
+    // one match on the byte: every other value has its line too, 12, so an enum of kinds would be made by one match and taken apart by another, no plainer
     match bytes[0] {
         1 => play_send(memory, bytes),
         2 => play_receive(memory, bytes),

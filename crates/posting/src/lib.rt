@@ -152,7 +152,7 @@ fn put_in(node: &mut [u32], s: Settings, goal: Goal, header: Header, body: &[u32
 {
     let n = blocks::needs_of(s, 5 + body.len());
     let Some(first) = blocks::take(node, s, n) else {
-        return;
+        unreachable!();
     };
     letters::write(node, s, first, header, body);
     append_to(node, s, goal, first);

@@ -6,7 +6,7 @@ ghost use Rattle.layout.specs.Places.{nodes, nodes_at};
 ghost use Rattle.postman.specs.Position.{stopped_at, rested_at, position_of, kept};
 ghost use Rattle.postman.specs.Round.{at_start, stopped, one_letter, blocks_back};
 
-// How a stage ends: done, or stopped with the refusal's number; the form that docs/DECISIONS.md names, so no Result.
+// How a stage ends: done, or stopped with the refusal's number; so the document has it (docs/DECISIONS.md, Forms), and no Result.
 #[derive(Clone, Copy, Debug, PartialEq, Eq)]
 pub enum Stage {
     Done,
@@ -37,7 +37,7 @@ impl Position {
     }
 }
 
-// The position at a stage, by value: the core. That it stands beside its twin by &mut is the form that docs/DECISIONS.md names.
+// The position at a stage, by value: the core. That it stands beside its twin by &mut is the document's form (docs/DECISIONS.md, Forms).
 fn stopped_at(p: Position, stage: u32, other: u32, held: u32) -> Position
     ensures { result ≡ stopped_at p stage other held }
 {

@@ -12,6 +12,22 @@ pub struct Reader<'a> {
     pub left: usize,
 }
 
+impl<'a> Reader<'a> {
+    // A reader at a block of the stretch, with so many words left.
+    pub fn new(node: &'a [u32], block: u32, left: usize) -> Reader<'a>
+        ensures { (result.node ≡ node.entry) × (result.block ≡ block) × (result.left ≡ left) }
+    {
+        Reader { node, block, left }
+    }
+
+    // The step at word `at` of the block that is read.
+    pub fn next(self, at: usize, before: u32, room: u32) -> Option<Step>
+        ensures { result ≡ step_at self.entry.node.now self.entry.block self.entry.left at before room }
+    {
+        step_at(self.node, self.block, self.left, at, before, room)
+    }
+}
+
 // What a step tells: how many of the words left the block carries, and the block that follows.
 #[derive(Clone, Copy, Debug, PartialEq, Eq)]
 pub struct Step {
@@ -23,12 +39,7 @@ pub struct Step {
 fn carried(left: usize, at: usize, room: usize) -> usize
     ensures { result ≡ carried_of left at room }
 {
-    if at < room {
-        let rest = room - at;
-        if left < rest { left } else { rest }
-    } else {
-        0
-    }
+    left.min(room.saturating_sub(at))
 }
 
 // The work: the step at word `at` of a block that carries `room` words, where the blocks follow word `before`; none where no word is left.
@@ -51,18 +62,6 @@ pub fn step_at(
     Some(Step { words, next })
 }
 
-pub fn new<'a>(node: &'a [u32], block: u32, left: usize) -> Reader<'a>
-    ensures { (result.node ≡ node.entry) × (result.block ≡ block) × (result.left ≡ left) }
-{
-    Reader { node, block, left }
-}
-
-pub fn next<'a>(r: Reader<'a>, at: usize, before: u32, room: u32) -> Option<Step>
-    ensures { result ≡ step_at r.entry.node.now r.entry.block r.entry.left at before room }
-{
-    step_at(r.node, r.block, r.left, at, before, room)
-}
-
 // Plain parameters: whoever calls this holds no reader.
 pub fn first(
     node: &[u32],
@@ -74,5 +73,5 @@ pub fn first(
 ) -> Option<Step>
     ensures { result ≡ step_at node.now block left at before room }
 {
-    next(new(node, block, left), at, before, room)
+    Reader::new(node, block, left).next(at, before, room)
 }

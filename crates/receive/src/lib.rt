@@ -220,7 +220,7 @@ fn receive_sound(
     collect(memory, seat.node as usize, seat.queue as usize, source, out)
 }
 
-// Receive, for any memory, any two task numbers and any out.
+// Receive, for any memory, any two task numbers and any out. Source 0 is any: so the document and C name it.
 pub fn receive(
     memory: &mut [u32],
     destination: u32,

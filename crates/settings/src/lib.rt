@@ -5,7 +5,7 @@ ghost use Rattle.std.specs.Prelude.{◌≡◌, cond};
 ghost use Rattle.settings.specs.Limits.{within};
 ghost use Rattle.settings.specs.Made.{made_settings};
 
-// A setting that lies between the two, both included.
+// A setting, made by `new` alone from a number between LEAST and GREATEST, both included.
 #[derive(Clone, Copy, Debug, PartialEq, Eq)]
 pub struct Setting<const LEAST: u32, const GREATEST: u32> {
     pub value: usize,
@@ -31,6 +31,7 @@ impl<const LEAST: u32, const GREATEST: u32> Setting<LEAST, GREATEST> {
 
     pub const MAX: u32 = GREATEST;
 
+    // The setting of a number, none where the number is out of range.
     pub fn new(x: u32) -> Option<Self>
         ensures { result ≡ cond (within (record { least = LEAST; greatest = GREATEST }) x) (Some (record { value = x })) None }
     {
@@ -53,6 +54,7 @@ pub struct Settings {
 }
 
 impl Settings {
+    // The five of five numbers, none where one is out of range.
     pub fn new(b: u32, m: u32, s: u32, a: u32, t: u32) -> Option<Settings>
         ensures { result ≡ made_settings b m s a t }
     {

@@ -89,7 +89,7 @@ fn is_right_post(node: &[u32], queue: QueueAt, m: usize, own: bool) -> bool
     }
 }
 
-// Whether a task queue is right; `task`: the task that it is bound to, 0 for none.
+// Whether a task queue is right; `task`: the task that it is bound to, 0 for none, as the row of seats has it (the document binds no task 0).
 #[tactic(auto, using(sound::proofs::Shapes::shape_queue))]
 fn is_right_seat(node: &[u32], queue: QueueAt, m: usize, task: u8) -> bool
     requires placed { Placed queue.kind node.now queue.at }

@@ -13,6 +13,7 @@ use settings::Settings;
 pub struct Shown {
     pub destination: u32,
     pub source: u32,
+    // 1 or 2, as the list's third word has it
     pub place: u32,
     pub holder: u32,
     pub block: u32,

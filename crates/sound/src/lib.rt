@@ -1,4 +1,4 @@
-// A sound memory: the test that every call but set up begins with.
+// The settings that a memory tells; the definitions of a sound memory stand in specs/.
 #![tactic(auto)]
 
 ghost use Rattle.std.specs.Prelude.{◌≡◌, ◌≤◌, length};

@@ -59,6 +59,7 @@ pub fn is_right(table: &[u32]) -> bool
     let Ok(table) = <&[u32; 512]>::try_from(table) else {
         return false;
     };
+    // the row of seats, in fixed memory: there is no heap
     seat_tasks(table, &mut [0; 384])
 }
 

@@ -8,8 +8,8 @@ use Rattle.posting.proofs.put_in.Goals as goal
 pub take-requires : goal.take-requires
 take-requires c = rw c.needs_of-n.ensures (posts-takes c.args.s c.args.node.now c.args.goal _ c.requires.posts)
 
-pub returns-in_default : goal.returns-in_default
-returns-in_default c = absurd (never_short c.args.s c.args.node.now c.args.goal (letter_of c.args.header c.args.body.now) (rw (made_long c.args.header c.args.body.now) c.requires) (rw (c.needs_of-n.ensures ∙ needs_made c.args.header c.args.body.now c.args.s) at (sym c.take.ensures.answer ∙ c.in_default.is)))
+pub unreachable-requires : goal.unreachable-requires
+unreachable-requires c = never_short c.args.s c.args.node.now c.args.goal (letter_of c.args.header c.args.body.now) (rw (made_long c.args.header c.args.body.now) c.requires) (rw (c.needs_of-n.ensures ∙ needs_made c.args.header c.args.body.now c.args.s) at (sym c.take.ensures.answer ∙ c.in_default.is))
 
 pub write-requires : goal.write-requires
 write-requires c = rw (made_long c.args.header c.args.body.now) at (put-lies c.args.s c.args.node.now c.args.goal (letter_of c.args.header c.args.body.now) (rw (made_long c.args.header c.args.body.now) c.requires) _ _ (rw (c.needs_of-n.ensures ∙ needs_made c.args.header c.args.body.now c.args.s) at (sym c.take.ensures.answer ∙ c.in-Some.is)) (rw (c.needs_of-n.ensures ∙ needs_made c.args.header c.args.body.now c.args.s) at c.take.ensures.stored))

@@ -1,7 +1,7 @@
 -- `turn::resume` meets its contract: by the stage. Assumes nothing.
 use mathlib.Core.Path.{sym, ◌∙◌}
 use native.Mathlib.Omega.{arith}
-use Rattle.turn.proofs.Resumes.{resumed_clear, resumed_two, resumed_three, at_three, resume_collects, resume_delivers}
+use Rattle.turn.proofs.Resumes.{resumed_clear, resumed_two, resumed_three, at_three, resume_collects}
 use Rattle.turn.proofs.resume.Goals as goal
 
 pub collect_from-requires : goal.collect_from-requires
@@ -9,9 +9,6 @@ collect_from-requires c = resume_collects c.args.s c.args.memory.now c.args.j c.
 
 pub returns-in-0 : goal.returns-in-0
 returns-in-0 c = c.collect_from.ensures ∙ sym (resumed_clear c.args.s c.args.memory.now c.args.j c.args.p c.args.r (omega arith))
-
-pub deliver-requires : goal.deliver-requires
-deliver-requires c = resume_delivers c.args.s c.args.memory.now c.args.j c.args.p c.requires.sound_at c.args.r c.requires.r_value (omega arith)
 
 pub returns-in-2 : goal.returns-in-2
 returns-in-2 c = c.deliver.ensures ∙ sym (resumed_two c.args.s c.args.memory.now c.args.j c.args.p c.args.r (omega arith))

@@ -5,6 +5,3 @@ use Rattle.turn.proofs.turn.Goals as goal
 
 pub returns-then-not-is_sound : goal.returns-then-not-is_sound
 returns-then-not-is_sound c = not_sound_lem c.args.memory.now (sym c.is_sound.ensures ∙ c.if-not-is_sound.true)
-
-pub turn_sound-requires : goal.turn_sound-requires
-turn_sound-requires c = sym c.is_sound.ensures ∙ c.if-not-is_sound.false

@@ -10,9 +10,6 @@ settings_in-s-requires c = omega (arith, sound-long c.args.memory.now c.requires
 pub bounds-memory-5 : goal.bounds-memory-5
 bounds-memory-5 c = omega (arith, sound-long c.args.memory.now c.requires)
 
-pub overflow_cast-j : goal.overflow_cast-j
-overflow_cast-j c = omega (arith, sound-turn c.args.memory.now c.requires)
-
 pub position_of-p-requires : goal.position_of-p-requires
 position_of-p-requires c = record { nodes_at_in_bounds = sound-long c.args.memory.now c.requires; j_lt_nodes = sound-turn c.args.memory.now c.requires }
 
