@@ -1,17 +1,17 @@
--- Words that are 0, and the slots outside the items as they stand in the stretch. Assumes nothing.
+-- Words that are 0, as they are joined, and the slots outside the items as they stand in the stretch. Assumes nothing.
 use mathlib.Core.Path.{◌≡◌, refl, sym, ap, ◌∙◌}
 use mathlib.Core.Bool.{Bool, true, ◌&&◌, ◌||◌}
 use mathlib.Core.List.{List}
-use mathlib.Core.Logic.{◌↔◌, ⊎_elim}
-use Prim.Native.Nat.{ℕ, ◌+◌, ◌-◌, ◌%◌, ◌≤◌, ◌<◌}
+use mathlib.Core.Logic.{⊎_elim}
+use Prim.Native.Nat.{ℕ, suc, ◌+◌, ◌-◌, ◌%◌, ◌≤◌, ◌<◌}
 use native.Mathlib.Nat.{mod-eq_of_lt, mod-eq-sub-mod}
 use native.Mathlib.Omega.{arith}
+use lib.Bits.{bit_or}
 use lib.Dec.{eqb, ltb}
-use lib.ListN.{length, get_or, drop, length-drop}
-use lib.Seq.{length-take-le}
-use Rattle.std.proofs.lemmas.List.{get_or-take, get_or-drop}
+use lib.ListN.{get_or}
 use borrow.Author.Tests.{eqb-true, eq-eqb, lt-ltb, le-ltb}
-use Rattle.words.specs.Words.{every, part}
+use Rattle.words.specs.Words.{every}
+use Rattle.words.proofs.Bits.{or_zero}
 use Rattle.words.proofs.Lists.{le_or_lt, and-true, and-join, same_test, every_at, every_all}
 use Rattle.queues.specs.declared.Kind.{Kind}
 use Rattle.queues.specs.Queue.{start, items, item_at}
@@ -32,17 +32,17 @@ module _ (l : List ℕ) (a e : ℕ) where
   unfolding zeroes
   zero_all f = every_all zero-there (e - a) (λ i h. eq-eqb (get_or l (a + i) 0) 0 (f (a + i) (omega arith) (omega arith)))
 
-  -- the words of the part are 0
-  part_at : (i : ℕ) → i < e - a → get_or (part l a e) i 0 ≡ get_or l (a + i) 0
-  part_at i h = get_or-take (e - a) (drop a l) i 0 h ∙ get_or-drop a l i 0
+-- a turn of the loop: what is joined of the words so far is 0 when each of them is
+module _ (l : List ℕ) (a : ℕ) where
+  pub zero_none : true ≡ zeroes l a a
+  zero_none = sym (zero_all l a a (λ p x y. absurd (omega arith)))
 
-  pub zero_part : a ≤ e → e ≤ length l → (r : Bool) → (r ≡ true) ↔ ((i : ℕ) → i < length (part l a e) → get_or (part l a e) i 0 ≡ 0) → r ≡ zeroes l a e
-  unfolding zeroes
-  zero_part h g r t =
-      let n : length (part l a e) ≡ e - a = length-take-le (e - a) (drop a l) (omega (arith, length-drop a l)) in
-      same_test r (every (e - a) zero-there)
-      (λ y. every_all zero-there (e - a) (λ i k. eq-eqb (get_or l (a + i) 0) 0 (sym (part_at i k) ∙ t.0 y i (omega arith))))
-      (λ y. t.1 (λ i k. part_at i (omega arith) ∙ eqb-true (get_or l (a + i) 0) 0 (every_at zero-there (e - a) y i (omega arith))))
+  pub zero_more : (i bits : ℕ) → a ≤ i → eqb bits 0 ≡ zeroes l a i → eqb (bit_or bits (get_or l i 0)) 0 ≡ zeroes l a (i + 1)
+  unfolding zeroes every
+  zero_more i bits h p =
+      let d : i + 1 - a ≡ suc (i - a) = omega arith in
+      let g : a + (i - a) ≡ i = omega arith in
+      or_zero bits (get_or l i 0) ∙ rw (d, g) (ap (λ (b : Bool). b && eqb (get_or l i 0) 0) p)
 
 -- ---- a queue's slots, by its start and its number of items
 module _ (k : Kind) (l : List ℕ) (q first count : ℕ) (x : (first ≡ start k l q) × (first < k.slots)) (y : (count ≡ items k l q) × (count ≤ k.slots)) where

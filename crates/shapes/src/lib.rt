@@ -25,7 +25,12 @@ fn are_zero(node: &[u32], a: usize, e: usize) -> bool
     requires { (a ≤ e) × (e ≤ length node.now) }
     ensures { result ≡ zeroes node.now a e }
 {
-    node[a..e].iter().all(|&word| word == 0)
+    // joined, and looked at once: a chain with `all` stops at each word, and took the test over the bar of speed (docs/BENCH.md)
+    let mut bits = 0;
+    for i in a..e {
+        bits |= node[i];
+    }
+    bits == 0
 }
 
 // Whether the slots outside the items are 0, as they stand: behind the last item and before the first, or between them where the items run round.
