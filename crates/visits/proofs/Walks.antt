@@ -3,7 +3,7 @@ use Rattle.std.specs.Prelude.{None, Option, Some}
 use mathlib.Core.Path.{◌≡◌, refl, sym, ap, ◌∙◌}
 use mathlib.Core.Bool.{Bool, true, false, ◌&&◌, false≢true}
 use mathlib.Core.List.{List, [], ◌∷◌, ◌++◌}
-use Prim.Native.Nat.{ℕ, ◌+◌, ◌-◌, ◌*◌, ◌≤◌, ◌<◌}
+use Prim.Native.Nat.{ℕ, zero, suc, ◌+◌, ◌-◌, ◌*◌, ◌≤◌, ◌<◌}
 use native.Mathlib.Nat.{mul-le-mul_right}
 use native.Mathlib.Omega.{arith}
 use lib.Dec.{eqb, leb}
@@ -19,7 +19,7 @@ use Rattle.letters.proofs.Steps.{link_from_lem}
 use Rattle.blocks.specs.Chain.{link, list, after}
 use Rattle.blocks.proofs.Steps.{list_step, list_none}
 use Rattle.sound.proofs.Tests.{and_assoc}
-use Rattle.visits.specs.Marks.{fresh, marked, ends_within, clean, Visited, Linked, Walked}
+use Rattle.visits.specs.Marks.{fresh, marked, ends_within, clean, Visited, Linked, told_by, Walked}
 
 -- ---- lists joined
 pub fresh-append : (marks l m : List ℕ) → fresh marks (l ++ m) ≡ fresh marks l && fresh (marked marks l) m
@@ -83,19 +83,34 @@ module _ (s : Settings) (l : List ℕ) (n b : ℕ) (marks : List ℕ) where
           }
 
 -- ---- a walk by numbers
+pub told_bad : (r : ℕ) → r ≡ 0 → told_by r ≡ None
+unfolding told_by
+told_bad r e = rw e
+
+pub told_ended : (r : ℕ) → (r ≡ 0 → ⊥) → told_by r ≡ Some (r - 1)
+unfolding told_by
+told_ended zero g = absurd (g refl)
+told_ended (suc k) g = ap Some (omega arith)
+
 module _ (words : List ℕ) (before width m n b : ℕ) (marks : List ℕ) where
-  pub walk_end : b ≡ 0 → Walked words before width m n b marks (Some n) marks
-  walk_end z = λ s st eb ew em. visit_end s words n b marks z
+  pub walk_end : b ≡ 0 → Walked words before width m n b marks (n + 1) marks
+  walk_end z = λ s st eb ew em. rw (told_ended (n + 1) (λ y. omega arith)) (rw (ended) (visit_end s words n b marks z))
+    where
+      ended : n + 1 - 1 ≡ n
+      ended = omega arith
 
   module _ (some : b ≡ 0 → ⊥) where
-    pub walk_none : n ≡ 0 → Walked words before width m n b marks None marks
+    pub walk_none : n ≡ 0 → Walked words before width m n b marks 0 marks
+    unfolding told_by
     walk_none z = λ s st eb ew em. visit_none s words n b marks marks some z
 
     module _ (h : n ≡ 0 → ⊥) where
-      pub walk_above : m < b → Walked words before width m n b marks None marks
+      pub walk_above : m < b → Walked words before width m n b marks 0 marks
+      unfolding told_by
       walk_above k = λ s st eb ew em. visit_above s words n b marks some h marks (omega arith)
 
-      pub walk_marked : (get_or marks b 0 ≡ 0 → ⊥) → Walked words before width m n b marks None marks
+      pub walk_marked : (get_or marks b 0 ≡ 0 → ⊥) → Walked words before width m n b marks 0 marks
+      unfolding told_by
       walk_marked k = λ s st eb ew em. visit_marked s words n b marks some h marks k
 
       module _ (k : b ≤ m) (z : get_or marks b 0 ≡ 0) where
@@ -106,9 +121,9 @@ module _ (words : List ℕ) (before width m n b : ℕ) (marks : List ℕ) where
             let f : before + b * width ≡ link_at s b = rw (eb, ew) (ap (λ (k : ℕ). block_at s 1 - 1 + b * k) (sym e) ∙ link_from_lem s st.range b (omega arith)) in
             ap (λ (i : ℕ). get_or words i 0) f
 
-        pub walk_next : (r : Option ℕ) (left : List ℕ) → Walked words before width m (n - 1) (get_or words (before + b * width) 0) (set marks b 1) r left → Walked words before width m n b marks r left
+        pub walk_next : (r : ℕ) (left : List ℕ) → Walked words before width m (n - 1) (get_or words (before + b * width) 0) (set marks b 1) r left → Walked words before width m n b marks r left
         walk_next r left v = λ s st eb ew em.
-            visit_step s words n b marks some h (omega arith) z (get_or words (before + b * width) 0) r left (goes s st eb ew) (v s st eb ew em)
+            visit_step s words n b marks some h (omega arith) z (get_or words (before + b * width) 0) (told_by r) left (goes s st eb ew) (v s st eb ew em)
 
   pub link_fits : Linked words before width m → b ≤ m → (before + b * width < length words) × (before + b * width ≤ 85274)
   link_fits g h =
@@ -131,5 +146,5 @@ module _ (s : Settings) (l : List ℕ) (st : Stretch s l) (before : ℕ) (e : be
       let small = node-small s r in
       record { inside = omega arith; small = omega arith; few = r.m.high }
 
-  pub visited_as : (n b : ℕ) (old : List ℕ) (r : Option ℕ) (new : List ℕ) → Walked l before s.b s.m n b old r new → Visited s l n b old r new
-  visited_as n b old r new v = v s st e refl refl
+  pub visited_as : (n b : ℕ) (old : List ℕ) (r : ℕ) (new : List ℕ) (w : Option ℕ) → told_by r ≡ w → Walked l before s.b s.m n b old r new → Visited s l n b old w new
+  visited_as n b old r new w q v = rw q at (v s st e refl refl)

@@ -1,5 +1,5 @@
 -- Marks: a row of bytes that shows which blocks were visited, and what a visit of a chain answers.
-use Rattle.std.specs.Prelude.{◌≡◌, Bool, true, ◌&&◌, cond, List, [], ◌∷◌, ℕ, ◌+◌, ◌-◌, ◌*◌, ◌≤◌, ◌<◌, eqb, leb, length, get_or, set, None, Option, Some}
+use Rattle.std.specs.Prelude.{◌≡◌, Bool, true, ◌&&◌, cond, List, [], ◌∷◌, ℕ, zero, suc, ◌+◌, ◌-◌, ◌*◌, ◌≤◌, ◌<◌, eqb, leb, length, get_or, set, None, Option, Some}
 use Rattle.words.specs.Words.{all}
 use Rattle.settings.specs.declared.Settings.{Settings}
 use Rattle.layout.specs.Places.{block_at}
@@ -37,7 +37,12 @@ pub record Linked (words : List ℕ) (before width m : ℕ) : Type 0 where
   pub small : before + m * width ≤ 85274
   pub few : m ≤ 1024
 
+-- what a visit answers, by a number: 0 for a bad chain, else one more than how many blocks were not there
+unfoldable pub told_by : ℕ → Option ℕ
+told_by zero = None
+told_by (suc n) = Some n
+
 -- a walk by such numbers is a visit in each stretch that they are of
-abbrev pub Walked : List ℕ → ℕ → ℕ → ℕ → ℕ → ℕ → List ℕ → Option ℕ → List ℕ → Type 0
+abbrev pub Walked : List ℕ → ℕ → ℕ → ℕ → ℕ → ℕ → List ℕ → ℕ → List ℕ → Type 0
 Walked words before width m n b old r new =
-    (s : Settings) → Stretch s words → before ≡ block_at s 1 - 1 → width ≡ s.b → m ≡ s.m → Visited s words n b old r new
+    (s : Settings) → Stretch s words → before ≡ block_at s 1 - 1 → width ≡ s.b → m ≡ s.m → Visited s words n b old (told_by r) new
