@@ -1,14 +1,14 @@
 -- A letter copied from one node's chain to another's, a block at a time. Assumes nothing.
 use mathlib.Core.Path.{◌≡◌, refl, sym, ap, ap₂, ◌∙◌}
-use mathlib.Core.Logic.{inl, inr, ⊎_elim}
+use mathlib.Core.Logic.{◌⊎◌, inl, inr, ⊎_elim}
 use mathlib.Core.List.{List, [], ◌∷◌}
 use Prim.Native.Nat.{ℕ, suc, ◌+◌, ◌-◌, ◌≤◌, ◌<◌, min}
 use native.Mathlib.Omega.{arith}
-use lib.ListN.{length, set, take, drop, length-set}
-use lib.Seq.{sets, length-sets, take-take, drop-drop}
+use lib.ListN.{length, get_or, set, take, drop, length-set}
+use lib.Seq.{sets, length-sets, take-take, take_all, drop-drop, length-take-le, get_or-set_other}
 use Rattle.words.specs.Words.{part, splice}
 use Rattle.words.proofs.Lists.{le_or_lt}
-use Rattle.words.proofs.Parts.{length_part, splice-part, splice-set, splice-splice, part-splice, length-splice, drop-take}
+use Rattle.words.proofs.Parts.{get_d_part, length_part, splice-part, splice-set, splice-splice, part-splice, length-splice, drop-take}
 use Rattle.settings.specs.declared.Settings.{Settings}
 use Rattle.layout.specs.Places.{block_at, node_at, node_end, node_size, node, with_node}
 use Rattle.layout.specs.Asked.{Sized}
@@ -17,8 +17,16 @@ use Rattle.blocks.specs.Chain.{needs, link, chain, text}
 use Rattle.blocks.specs.Asked.{Walks}
 use Rattle.letters.specs.Letter.{letter, piece, laid, copied}
 use Rattle.letters.proofs.Steps.{piece_is, piece-long, head_block, walks-rest, front_words, rest-words, laid_none, laid_step, walks-laid}
+use Rattle.letters.proofs.UnderWay.{sets_more}
 use Rattle.letters.proofs.Copies.{inside, before_node, node-long, length-letter, put-long, put_to, put_again, put-away}
 use Rattle.copying.specs.Asked.{Moves, CopiesBlock, Copies}
+
+-- ---- a word that a run of stores leaves
+sets-away : (p l : List ℕ) (a i : ℕ) → (i < a) ⊎ (a + length p ≤ i) → get_or (sets l a p) i 0 ≡ get_or l i 0
+sets-away [] l a i h = refl
+sets-away (x ∷ p) l a i h =
+    sets-away p (set l a x) (suc a) i (⊎_elim (λ u. inl (omega arith)) (λ u. inr (omega arith)) h)
+    ∙ get_or-set_other l a i x 0 (λ e. ⊎_elim (λ u. omega arith) (λ u. omega arith) h)
 
 -- ---- words read and stored in a part are words of the list
 module _ (l : List ℕ) (a e : ℕ) (h : a ≤ e) (g : e ≤ length l) where
@@ -45,6 +53,28 @@ module _ (l : List ℕ) (a e : ℕ) (h : a ≤ e) (g : e ≤ length l) where
 
   sets_in : (p : List ℕ) (k : ℕ) → k + length p ≤ e - a → sets l (a + k) p ≡ splice l a e (sets (part l a e) k p)
   sets_in p k w = sym (splice-sets p (part l a e) k (length_part l a e h g) w ∙ ap (λ (r : List ℕ). sets r (a + k) p) (splice-part l a e h g))
+
+-- ---- words moved in a list
+module _ (m : List ℕ) (from to n : ℕ) (w : Moves m from to n) where
+  abbrev moving : List ℕ
+  moving = part m from (from + n)
+
+  moving_long : length moving ≡ n
+  moving_long = length_part m from (from + n) (omega arith) w.reads ∙ omega arith
+
+  -- the words up to k stand; one more
+  pub moved_more : (k : ℕ) (l : List ℕ) → k < n → l ≡ sets m to (take k (part m from (from + n)))
+      → set l (to + k) (get_or l (from + k) 0) ≡ sets m to (take (k + 1) (part m from (from + n)))
+  moved_more k l h e =
+      let z = moving_long in
+      let lq : length (take k moving) ≡ k = length-take-le k moving (omega arith) in
+      let o : (from + k < to) ⊎ (to + length (take k moving) ≤ from + k) = ⊎_elim (λ u. inl (omega arith)) (λ u. inr (omega arith)) w.apart in
+      ap₂ (λ (r : List ℕ) (x : ℕ). set r (to + k) x) e
+      (ap (λ (r : List ℕ). get_or r (from + k) 0) e ∙ sets-away (take k moving) m to (from + k) o ∙ sym (get_d_part m from (from + n) (omega arith) w.reads k (omega arith)))
+      ∙ sets_more moving m to k (omega arith)
+
+  pub moved_all : (k : ℕ) (l : List ℕ) → n ≤ k → l ≡ sets m to (take k (part m from (from + n))) → l ≡ sets m to (part m from (from + n))
+  moved_all k l h e = let z = moving_long in e ∙ ap (sets m to) (take_all k moving (omega arith))
 
 -- ---- one block
 module _ (s : Settings) (m : List ℕ) (i x j y : ℕ) (w : CopiesBlock s m i x j y) (left n from to : ℕ)

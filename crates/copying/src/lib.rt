@@ -23,12 +23,14 @@ fn link_in(memory: &[u32], s: Settings, i: usize, b: u32) -> u32
     blocks::link_of(layout::stretch(memory, s, i), s, b)
 }
 
-// Copies n words of the memory over n others.
+// Copies n words of the memory over n others: a loop, since std's `copy_within` asks C's host for `memmove` (README).
 fn move_words(memory: &mut [u32], from: usize, to: usize, n: usize)
     requires { Moves memory.old from to n }
     ensures { memory.new ≡ sets memory.old to (part memory.old from (from + n)) }
 {
-    memory.copy_within(from..from + n, to);
+    for k in 0..n {
+        memory[to + k] = memory[from + k];
+    }
 }
 
 // Copies the words of block x of node i, `left` at most, over the first of block y of node j; how many they are.

@@ -40,7 +40,7 @@ pub fn read_block(node: &[u32], s: Settings, b: u32, at: usize, out: &mut [u32])
     let left = s.b - 1 - at;
     let n = out.len().min(left);
     let a = layout::block_at(s, b as usize) + at;
-    out[..n].copy_from_slice(&node[a..a + n]);
+    words::copy(&mut out[..n], &node[a..a + n]);
     n
 }
 

@@ -68,7 +68,7 @@ fn lay(out: &mut [u32], n: u32, x: Shown)
     let at = n as usize * 6;
     if at + 6 <= out.len() {
         let words = [x.destination, x.source, x.place, x.holder, x.block, x.body];
-        out[at..at + 6].copy_from_slice(&words);
+        words::copy(&mut out[at..at + 6], &words);
     }
 }
 

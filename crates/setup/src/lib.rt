@@ -68,7 +68,7 @@ fn lay_memory(memory: &mut [u32], s: Settings, table: &[u32])
 {
     memory.fill(0);
     lay_head(&mut memory[0..24], s);
-    memory[24..536].copy_from_slice(table);
+    words::copy(&mut memory[24..536], table);
     lay_nodes(memory, s);
 }
 

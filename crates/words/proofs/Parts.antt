@@ -1,11 +1,12 @@
 -- A part that was lent and came back: lengths, reads, stores, and the parts before and behind it. Assumes nothing.
 use mathlib.Core.Path.{◌≡◌, refl, sym, ap, ◌∙◌}
 use mathlib.Core.Logic.{⊎_elim}
-use mathlib.Core.List.{List, [], ◌∷◌, ◌++◌, append_assoc}
+use mathlib.Core.List.{List, [], ◌∷◌, ◌++◌, append_assoc, append-nil}
 use Prim.Native.Nat.{ℕ, zero, suc, ◌+◌, ◌-◌, ◌≤◌, ◌<◌, min}
 use native.Mathlib.Nat.{le_trans}
+use native.Mathlib.Numerals.{add-one}
 use native.Mathlib.Omega.{arith}
-use lib.ListN.{length, get_or, take, drop, set, length-append, length-take, length-drop, take-append-drop}
+use lib.ListN.{length, get_or, take, drop, set, length-append, length-take, length-drop, take-append-drop, drop_of_length-le}
 use lib.Seq.{drop-append-add, take_all, take-take, take-nil, get_or-take, get_or-drop, length-take-le, take_at, drop_at, drop-drop, take-append-le, drop-append-le}
 use borrow.Rule.Slice.PartMut.{put_mid, Post-is, mid_len, set_mid_at, put_same}
 use Rattle.words.specs.Words.{part, splice}
@@ -69,6 +70,19 @@ module _ (l : List ℕ) (a e : ℕ) (h : a ≤ e) (g : e ≤ length l) where
         ap (λ (k : ℕ). drop k (splice l a e p)) (sym q) ∙ sym (drop-drop (b - e) e (splice l a e p))
         ∙ ap (drop (b - e)) drop-splice ∙ drop-drop (b - e) e l ∙ ap (λ (k : ℕ). drop k l) q in
         ap (take (f - b)) t
+
+-- ---- a loop that writes the words r over d from the front: after n turns the first n stand, and the rest is d
+laid-suc : (n : ℕ) (r d : List ℕ) → n < length d → n < length r → set (take n r ++ drop n d) n (get_or r n 0) ≡ take (suc n) r ++ drop (suc n) d
+laid-suc n r [] h g = absurd (omega arith)
+laid-suc n [] (x ∷ d) h g = absurd (omega arith)
+laid-suc zero (y ∷ r) (x ∷ d) h g = refl
+laid-suc (suc n) (y ∷ r) (x ∷ d) h g = ap (λ (t : List ℕ). y ∷ t) (laid-suc n r d (omega arith) (omega arith))
+
+pub laid_more : (n : ℕ) (r d : List ℕ) → n < length d → n < length r → set (take n r ++ drop n d) n (get_or r n 0) ≡ take (n + 1) r ++ drop (n + 1) d
+laid_more n r d h g = rw (add-one n) (laid-suc n r d h g)
+
+pub laid_all : (n : ℕ) (r d : List ℕ) → length d ≤ n → length r ≤ n → take n r ++ drop n d ≡ r
+laid_all n r d h g = rw (drop_of_length-le d h, take_all n r g, append-nil)
 
 -- ---- a memory that is written from the front, part by part: the words p stand, then a part is lent and comes back as x
 pub grown : (m p x : List ℕ) (a e : ℕ) → length p ≡ a → a ≤ e → splice (p ++ drop a m) a e x ≡ (p ++ x) ++ drop e m

@@ -1,19 +1,18 @@
--- `copying::move_words` meets its contract: the words copied, pasted at one go, are those stored one by one. Assumes nothing.
-use mathlib.Core.Path.{sym, ap, ◌∙◌}
-use mathlib.Core.List.{◌++◌}
-use Prim.Native.Nat.{ℕ, ◌+◌}
+-- `copying::move_words` meets its contract: after k turns the first k words stand. Assumes nothing.
+use mathlib.Core.Path.{◌∙◌}
 use native.Mathlib.Omega.{arith}
-use lib.ListN.{take, drop}
-use Rattle.std.proofs.lemmas.List.Edits.{sets-eq}
-use Rattle.words.specs.Words.{part}
-use Rattle.words.proofs.Parts.{length_part}
+use lib.ListN.{length-set}
+use Rattle.copying.proofs.Moving.{moved_more, moved_all}
 use Rattle.copying.proofs.move_words.Goals as goal
+
+pub loop-k-preserved : goal.loop-k-preserved
+loop-k-preserved c =
+    let l = c.loop-k in
+    let a = c.args in
+    (length-set l.memory _ _ ∙ l.invariant.0, moved_more a.memory.now a.from a.to a.n c.requires l.k l.memory (omega arith) l.invariant.1)
 
 pub returns : goal.returns
 returns c =
-    let x = c.args in
-    let m = x.memory.now in
-    let p = part m x.from (x.from + x.n) in
-    let z = length_part m x.from (x.from + x.n) (omega arith) c.requires.reads in
-    c.copy_within.ensures.after
-    ∙ sym (sets-eq p m x.to (omega (arith, z, c.requires.writes)) ∙ ap (λ (k : ℕ). take x.to m ++ p ++ drop (x.to + k) m) z)
+    let l = c.loop-k in
+    let a = c.args in
+    moved_all a.memory.now a.from a.to a.n c.requires l.k l.memory (omega arith) l.invariant.1

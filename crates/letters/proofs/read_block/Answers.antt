@@ -16,4 +16,4 @@ returns-clause-got c =
     let b = c.requires.block in
     let a = ap (λ (k : ℕ). k + c.args.at) c.block_at.ensures.is in
     piece-got c.args.s c.args.node.now b.stretch c.args.b b.low b.high c.args.at c.requires.inside (length c.args.out.now) _ _ c.min-n.ensures a c.args.out.now _
-    c.copy_from_slice.ensures.after
+    c.copy.ensures

@@ -6,4 +6,4 @@ use Rattle.listing.proofs.Laying.{six, letter-room}
 use Rattle.listing.proofs.lay.Goals as goal
 
 pub returns-then-at-out : goal.returns-then-at-out
-returns-then-at-out c = let x = c.args in six x.x x.out.now (x.n * list_words) _ c.copy_from_slice.ensures.after c.if-at-out.true ∙ letter-room x.x x.n x.out.now c.if-at-out.true
+returns-then-at-out c = let x = c.args in six x.x x.out.now (x.n * list_words) _ c.copy.ensures c.if-at-out.true ∙ letter-room x.x x.n x.out.now c.if-at-out.true
