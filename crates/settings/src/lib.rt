@@ -1,42 +1,124 @@
-// The five settings: each a number with its least and greatest value, and a constructor that refuses.
+// The five settings: a type each, with its least and greatest value and a constructor that refuses.
 #![tactic(auto)]
 
 ghost use Rattle.std.specs.Prelude.{◌≡◌, cond};
-ghost use Rattle.settings.specs.Limits.{within};
+ghost use Rattle.settings.specs.Limits.{within, block_words, node_blocks, queue_length};
 ghost use Rattle.settings.specs.Made.{made_settings};
 
-// A setting, made by `new` alone from a number between LEAST and GREATEST, both included.
-#[derive(Clone, Copy, Debug, PartialEq, Eq)]
-pub struct Setting<const LEAST: u32, const GREATEST: u32> {
-    pub value: usize,
+// A type each, and not one with the limits as parameters: MIN and MAX of such a type no clause could name and no proof would hold, and S, A and T would be one type.
+
+// Whether x lies between the two, both included.
+#[tactic(auto, unfolding(crate::specs::Limits::within))]
+fn is_within(least: u32, greatest: u32, x: u32) -> bool
+    ensures { result ≡ within (record { least = least; greatest = greatest }) x }
+{
+    least <= x && x <= greatest
 }
 
 // B, words in a block, link included.
-pub type BlockWords = Setting<4, 64>;
+#[derive(Clone, Copy, Debug, PartialEq, Eq)]
+pub struct BlockWords {
+    pub value: usize,
+}
+
+impl BlockWords {
+    pub const MIN: u32 = 4;
+
+    pub const MAX: u32 = 64;
+
+    pub fn new(x: u32) -> Option<BlockWords>
+        ensures { result ≡ cond (within block_words x) (Some (record { value = x })) None }
+    {
+        if is_within(Self::MIN, Self::MAX, x) {
+            Some(BlockWords { value: x as usize })
+        } else {
+            None
+        }
+    }
+}
 
 // M, blocks in a node.
-pub type NodeBlocks = Setting<1, 1024>;
+#[derive(Clone, Copy, Debug, PartialEq, Eq)]
+pub struct NodeBlocks {
+    pub value: usize,
+}
+
+impl NodeBlocks {
+    pub const MIN: u32 = 1;
+
+    pub const MAX: u32 = 1024;
+
+    pub fn new(x: u32) -> Option<NodeBlocks>
+        ensures { result ≡ cond (within node_blocks x) (Some (record { value = x })) None }
+    {
+        if is_within(Self::MIN, Self::MAX, x) {
+            Some(NodeBlocks { value: x as usize })
+        } else {
+            None
+        }
+    }
+}
 
 // S, length of a send queue.
-pub type SendLength = Setting<2, 255>;
+#[derive(Clone, Copy, Debug, PartialEq, Eq)]
+pub struct SendLength {
+    pub value: usize,
+}
+
+impl SendLength {
+    pub const MIN: u32 = 2;
+
+    pub const MAX: u32 = 255;
+
+    pub fn new(x: u32) -> Option<SendLength>
+        ensures { result ≡ cond (within queue_length x) (Some (record { value = x })) None }
+    {
+        if is_within(Self::MIN, Self::MAX, x) {
+            Some(SendLength { value: x as usize })
+        } else {
+            None
+        }
+    }
+}
 
 // A, length of an acknowledge queue.
-pub type AcknowledgeLength = Setting<2, 255>;
+#[derive(Clone, Copy, Debug, PartialEq, Eq)]
+pub struct AcknowledgeLength {
+    pub value: usize,
+}
+
+impl AcknowledgeLength {
+    pub const MIN: u32 = 2;
+
+    pub const MAX: u32 = 255;
+
+    pub fn new(x: u32) -> Option<AcknowledgeLength>
+        ensures { result ≡ cond (within queue_length x) (Some (record { value = x })) None }
+    {
+        if is_within(Self::MIN, Self::MAX, x) {
+            Some(AcknowledgeLength { value: x as usize })
+        } else {
+            None
+        }
+    }
+}
 
 // T, length of a task queue.
-pub type TaskLength = Setting<2, 255>;
+#[derive(Clone, Copy, Debug, PartialEq, Eq)]
+pub struct TaskLength {
+    pub value: usize,
+}
 
-impl<const LEAST: u32, const GREATEST: u32> Setting<LEAST, GREATEST> {
-    pub const MIN: u32 = LEAST;
+impl TaskLength {
+    pub const MIN: u32 = 2;
 
-    pub const MAX: u32 = GREATEST;
+    pub const MAX: u32 = 255;
 
-    // The setting of a number, none where the number is out of range.
-    pub fn new(x: u32) -> Option<Self>
-        ensures { result ≡ cond (within (record { least = LEAST; greatest = GREATEST }) x) (Some (record { value = x })) None }
+    pub fn new(x: u32) -> Option<TaskLength>
+        ensures { result ≡ cond (within queue_length x) (Some (record { value = x })) None }
     {
-        if LEAST <= x && x <= GREATEST {
-            Some(Setting { value: x as usize })
+        if is_within(Self::MIN, Self::MAX, x) {
+            Some(TaskLength { value: x as usize })
         } else {
             None
         }
