@@ -49,6 +49,20 @@ impl Kind {
         }
     }
 
+    // The send queues' kind.
+    pub fn send(s: Settings) -> Kind
+        ensures { result ≡ send_kind s }
+    {
+        Kind::post(s.s)
+    }
+
+    // The acknowledge queues' kind.
+    pub fn ack(s: Settings) -> Kind
+        ensures { result ≡ ack_kind s }
+    {
+        Kind::post(s.a)
+    }
+
     // The task queues' kind.
     pub fn task(s: Settings) -> Kind
         ensures { result ≡ task_kind s }
@@ -70,7 +84,7 @@ impl QueueAt {
         ensures at { IsAt s (send_at s k) (queue_head + s.s) result.at }
     {
         QueueAt {
-            kind: Kind::post(s.s),
+            kind: Kind::send(s),
             at: layout::send_at(s, k),
         }
     }
@@ -83,7 +97,7 @@ impl QueueAt {
         ensures at { IsAt s (ack_at s k) (queue_head + s.a) result.at }
     {
         QueueAt {
-            kind: Kind::post(s.a),
+            kind: Kind::ack(s),
             at: layout::ack_at(s, k),
         }
     }
