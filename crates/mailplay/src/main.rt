@@ -2,7 +2,7 @@
 #![tactic(auto)]
 
 ghost use Rattle.std.specs.Prelude.{◌≡◌, ◌≤◌, length, IfOk};
-ghost use Rattle.mailplay.specs.declared.TheConstants.{MEMORY_WORDS, TABLE_WORDS, PAPER_WORDS};
+ghost use Rattle.mailplay.specs.Limits.{memory_limit, table_limit};
 
 use answers::Answer;
 use script::ScriptError;
@@ -95,8 +95,8 @@ fn within(n: u32, most: usize) -> Result<usize, ScriptError>
 struct InUse {
     memory: usize,
     table: usize,
-    ghost memory_fits: { memory ≤ MEMORY_WORDS },
-    ghost table_fits: { table ≤ TABLE_WORDS },
+    ghost memory_fits: { memory ≤ memory_limit },
+    ghost table_fits: { table ≤ table_limit },
 }
 
 // What a script is played on, in fixed memory: there is no heap. The paper has the body or the out of a call.
