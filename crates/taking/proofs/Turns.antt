@@ -105,3 +105,8 @@ module _ (s : Settings) (l : List ℕ) (source b : ℕ) where
   pub wanted_from : (b ≡ 0 → ⊥) → wanted s l source b ≡ from s l source b
   unfolding wanted
   wanted_from g = rw (ne_eqb b 0 g)
+
+-- a gap at place i is passed over: what is found from there on is what is found behind it
+pub gap_passed : (s : Settings) (l : List ℕ) (source : ℕ) (k : Kind) (q i n b : ℕ) → i < n → b ≡ item_at k l q i → b ≡ 0
+    → first_from (wanted s l source) i (run k l q i (n - i)) ≡ first_from (wanted s l source) (i + 1) (run k l q (i + 1) (n - (i + 1)))
+gap_passed s l source k q i n b h e g = first-later k l q i n h (wanted s l source) (rw (← e) (wanted-gap s l source b g))

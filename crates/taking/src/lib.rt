@@ -21,6 +21,7 @@ fn is_from(node: &[u32], s: Settings, source: u32, b: u32) -> bool
 }
 
 // The place of the first letter from the source, if there is one.
+#[tactic(auto, using(crate::proofs::Turns::gap_passed))]
 pub fn find(node: &[u32], s: Settings, q: usize, source: u32) -> Option<usize>
     requires { Findable s node.now q }
     ensures { result ≡ found s node.now q source }

@@ -155,7 +155,11 @@ module _ (m : List ℕ) (e : sound m ≡ true) where
   answer_is = rw e
 
   letters_is : letters_of (turn m).answer ≡ length w.news
-  letters_is = omega (arith, ap letters_of answer_is, w.letters)
+  letters_is = omega (arith, ap letters_of answer_is, told post.round.how, w.letters)
+    where
+      told : (x : Stage) → letters_of (Ok (record { node = turn_in m; letters = post.round.letters; back = post.round.back; how = x })) ≡ post.round.letters
+      told Done = refl
+      told (Halted n) = refl
 
   pub turn-sound : sound (turn m).memory ≡ true
   turn-sound = ap sound memory_is ∙ sound₂
