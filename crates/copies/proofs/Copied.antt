@@ -43,7 +43,7 @@ pointwise_alike [] (y ∷ b) = refl
 pointwise_alike (x ∷ a) [] = refl
 pointwise_alike (x ∷ a) (y ∷ b) = ap (λ (t : Bool). eqb x y && t) (pointwise_alike a b)
 
-differ_long : (a b : List ℕ) → (length a ≡ length b → ⊥) → false ≡ alike a b
+pub differ_long : (a b : List ℕ) → (length a ≡ length b → ⊥) → false ≡ alike a b
 differ_long a b h = split (alike a b) (λ t. absurd (h (ap length (alike_same a b t)))) (λ t. sym t)
 
 -- lists joined, the fronts as long as each other

@@ -18,10 +18,10 @@ module _ (t : List ℕ) (source : ℕ) where
   known_any e = rw (eq-eqb source 0 e)
 
   module _ (n : source ≡ 0 → ⊥) where
-    known_seat : (x : Seat) → seat_of t source ≡ Some x → true ≡ (eqb source 0 || is_bound t source)
+    pub known_seat : (x : Seat) → seat_of t source ≡ Some x → true ≡ (eqb source 0 || is_bound t source)
     known_seat x e = rw (ne_eqb source 0 n, (told_at t source x.node x.queue e).0)
 
-    known_not : seat_of t source ≡ None → false ≡ (eqb source 0 || is_bound t source)
+    pub known_not : seat_of t source ≡ None → false ≡ (eqb source 0 || is_bound t source)
     known_not e = rw (ne_eqb source 0 n, told-unbound t source e)
 
     pub known_is : {x : Option Seat} {b : Bool} → x ≡ seat_of t source → b ≡ is_some x → b ≡ (eqb source 0 || is_bound t source)
