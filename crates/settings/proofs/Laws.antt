@@ -8,11 +8,7 @@ use Rattle.words.proofs.Lists.{and-true, and-join, told_none, told_some}
 use Rattle.settings.specs.Limits.{Limits, within, block_words, node_blocks, queue_length}
 use Rattle.settings.specs.Range.{in_range, Within, InRange}
 use Rattle.settings.specs.Made.{settings_of, made_settings}
-use Rattle.settings.specs.declared.BlockWords.{BlockWords}
-use Rattle.settings.specs.declared.NodeBlocks.{NodeBlocks}
-use Rattle.settings.specs.declared.SendLength.{SendLength}
-use Rattle.settings.specs.declared.AcknowledgeLength.{AcknowledgeLength}
-use Rattle.settings.specs.declared.TaskLength.{TaskLength}
+use Rattle.settings.specs.declared.Setting.{Setting}
 use Rattle.settings.specs.declared.Settings.{Settings}
 use Rattle.std.specs.Prelude.{Some, None}
 
@@ -76,8 +72,8 @@ module _ (B M S A T : ℕ) where
           unfolding made_settings in_range
           made_all t = simp (b, m, s, a, t)
 
--- the five made are the settings of their numbers
-pub made_of : {B M S A T : ℕ} {b : BlockWords} {m : NodeBlocks} {s : SendLength} {a : AcknowledgeLength} {t : TaskLength}
+-- the five made are the settings of their numbers; each goes by its letter, as a byte
+pub made_of : {B M S A T : ℕ} {b : Setting 66} {m : Setting 77} {s : Setting 83} {a : Setting 65} {t : Setting 84}
     → record { value = B } ≡ b → record { value = M } ≡ m → record { value = S } ≡ s → record { value = A } ≡ a → record { value = T } ≡ t
     → Some (settings_of B M S A T) ≡ made_settings B M S A T
     → Some (settings_of b.value m.value s.value a.value t.value) ≡ made_settings B M S A T

@@ -1,11 +1,9 @@
-// The five settings: a type each, with its least and greatest value and a constructor that refuses.
+// The five settings: each a number with its least and greatest value, and a constructor that refuses.
 #![tactic(auto)]
 
 ghost use Rattle.std.specs.Prelude.{◌≡◌, cond};
 ghost use Rattle.settings.specs.Limits.{within, block_words, node_blocks, queue_length};
 ghost use Rattle.settings.specs.Made.{made_settings};
-
-// A type each, and not one with the limits as parameters: MIN and MAX of such a type no clause could name and no proof would hold, and S, A and T would be one type.
 
 // Whether x lies between the two, both included.
 #[tactic(auto, unfolding(crate::specs::Limits::within))]
@@ -15,113 +13,99 @@ fn is_within(least: u32, greatest: u32, x: u32) -> bool
     least <= x && x <= greatest
 }
 
-// B, words in a block, link included.
+// A setting, by the letter that the document gives it: a type each. MIN, MAX and `new` stand at each letter, since no clause can name, and no proof
+// hold, a constant that goes by a parameter.
 #[derive(Clone, Copy, Debug, PartialEq, Eq)]
-pub struct BlockWords {
+pub struct Setting<const LETTER: u8> {
     pub value: usize,
 }
 
-impl BlockWords {
+// B, words in a block, link included.
+pub type BlockWords = Setting<b'B'>;
+
+// M, blocks in a node.
+pub type NodeBlocks = Setting<b'M'>;
+
+// S, length of a send queue.
+pub type SendLength = Setting<b'S'>;
+
+// A, length of an acknowledge queue.
+pub type AcknowledgeLength = Setting<b'A'>;
+
+// T, length of a task queue.
+pub type TaskLength = Setting<b'T'>;
+
+impl<const LETTER: u8> Setting<LETTER> {
+    // The setting of a number, none where the number is not between the two, both included.
+    #[tactic(auto, unfolding(crate::specs::Limits::within))]
+    fn between(least: u32, greatest: u32, x: u32) -> Option<Self>
+        ensures { result ≡ cond (within (record { least = least; greatest = greatest }) x) (Some (record { value = x })) None }
+    {
+        if is_within(least, greatest, x) {
+            Some(Setting { value: x as usize })
+        } else {
+            None
+        }
+    }
+}
+
+impl Setting<b'B'> {
     pub const MIN: u32 = 4;
 
     pub const MAX: u32 = 64;
 
-    pub fn new(x: u32) -> Option<BlockWords>
+    pub fn new(x: u32) -> Option<Self>
         ensures { result ≡ cond (within block_words x) (Some (record { value = x })) None }
     {
-        if is_within(Self::MIN, Self::MAX, x) {
-            Some(BlockWords { value: x as usize })
-        } else {
-            None
-        }
+        Self::between(Self::MIN, Self::MAX, x)
     }
 }
 
-// M, blocks in a node.
-#[derive(Clone, Copy, Debug, PartialEq, Eq)]
-pub struct NodeBlocks {
-    pub value: usize,
-}
-
-impl NodeBlocks {
+impl Setting<b'M'> {
     pub const MIN: u32 = 1;
 
     pub const MAX: u32 = 1024;
 
-    pub fn new(x: u32) -> Option<NodeBlocks>
+    pub fn new(x: u32) -> Option<Self>
         ensures { result ≡ cond (within node_blocks x) (Some (record { value = x })) None }
     {
-        if is_within(Self::MIN, Self::MAX, x) {
-            Some(NodeBlocks { value: x as usize })
-        } else {
-            None
-        }
+        Self::between(Self::MIN, Self::MAX, x)
     }
 }
 
-// S, length of a send queue.
-#[derive(Clone, Copy, Debug, PartialEq, Eq)]
-pub struct SendLength {
-    pub value: usize,
-}
-
-impl SendLength {
+impl Setting<b'S'> {
     pub const MIN: u32 = 2;
 
     pub const MAX: u32 = 255;
 
-    pub fn new(x: u32) -> Option<SendLength>
+    pub fn new(x: u32) -> Option<Self>
         ensures { result ≡ cond (within queue_length x) (Some (record { value = x })) None }
     {
-        if is_within(Self::MIN, Self::MAX, x) {
-            Some(SendLength { value: x as usize })
-        } else {
-            None
-        }
+        Self::between(Self::MIN, Self::MAX, x)
     }
 }
 
-// A, length of an acknowledge queue.
-#[derive(Clone, Copy, Debug, PartialEq, Eq)]
-pub struct AcknowledgeLength {
-    pub value: usize,
-}
-
-impl AcknowledgeLength {
+impl Setting<b'A'> {
     pub const MIN: u32 = 2;
 
     pub const MAX: u32 = 255;
 
-    pub fn new(x: u32) -> Option<AcknowledgeLength>
+    pub fn new(x: u32) -> Option<Self>
         ensures { result ≡ cond (within queue_length x) (Some (record { value = x })) None }
     {
-        if is_within(Self::MIN, Self::MAX, x) {
-            Some(AcknowledgeLength { value: x as usize })
-        } else {
-            None
-        }
+        Self::between(Self::MIN, Self::MAX, x)
     }
 }
 
-// T, length of a task queue.
-#[derive(Clone, Copy, Debug, PartialEq, Eq)]
-pub struct TaskLength {
-    pub value: usize,
-}
-
-impl TaskLength {
+impl Setting<b'T'> {
     pub const MIN: u32 = 2;
 
     pub const MAX: u32 = 255;
 
-    pub fn new(x: u32) -> Option<TaskLength>
+    pub fn new(x: u32) -> Option<Self>
         ensures { result ≡ cond (within queue_length x) (Some (record { value = x })) None }
     {
-        if is_within(Self::MIN, Self::MAX, x) {
-            Some(TaskLength { value: x as usize })
-        } else {
-            None
-        }
+        Self::between(Self::MIN, Self::MAX, x)
     }
 }
 
