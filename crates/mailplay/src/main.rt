@@ -2,7 +2,7 @@
 #![tactic(auto)]
 
 ghost use Rattle.std.specs.Prelude.{◌≡◌, ◌≤◌, length, IfOk};
-ghost use Rattle.mailplay.specs.Limits.{memory_limit, table_limit};
+ghost use Rattle.mailplay.specs.Limits.{memory_limit, table_limit, paper_limit};
 
 use answers::Answer;
 use script::ScriptError;
@@ -90,6 +90,13 @@ fn within(n: u32, most: usize) -> Result<usize, ScriptError>
     }
 }
 
+// The length of the out of a list.
+fn within_paper(n: u32) -> Result<usize, ScriptError>
+    ensures { IfOk result (λ k. k ≤ paper_limit) }
+{
+    within(n, PAPER_WORDS)
+}
+
 // How many words of the memory and of the table a script has in use.
 #[derive(Clone, Copy)]
 struct InUse {
@@ -156,7 +163,7 @@ impl Player {
     // Kind 5.
     fn list(&mut self, to: &impl Print, words: [u32; 5]) -> Result<(), ScriptError> {
         let [n, f, ..] = words;
-        let n = within(n, PAPER_WORDS)?;
+        let n = within_paper(n)?;
         let paper = &mut self.paper[..];
         let out = &mut paper[..n];
         script::fill(out, f);
