@@ -21,6 +21,7 @@ fn is_from(node: &[u32], s: Settings, source: u32, b: u32) -> bool
 }
 
 // The place of the first letter from the source, if there is one.
+// (`gap_passed` is there for the edit `gap_is_the_end`: with it the right program of that form proves, so that the edit is refused for the fact.)
 #[tactic(auto, using(crate::proofs::Turns::gap_passed))]
 pub fn find(node: &[u32], s: Settings, q: usize, source: u32) -> Option<usize>
     requires { Findable s node.now q }

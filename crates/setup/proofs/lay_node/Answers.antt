@@ -1,7 +1,7 @@
 -- `setup::lay_node` meets its contract: before the turn of block b, the b - 1 blocks before it are linked. Assumes nothing.
-use mathlib.Core.Path.{◌≡◌, ap, ◌∙◌}
+use mathlib.Core.Path.{◌≡◌, ap, ap₂, ◌∙◌}
 use mathlib.Core.List.{List}
-use Prim.Native.Nat.{ℕ, ◌+◌, ◌-◌}
+use Prim.Native.Nat.{ℕ, ◌-◌}
 use native.Mathlib.Omega.{arith}
 use lib.ListN.{length, set, replicate, length-replicate}
 use Rattle.settings.specs.declared.Settings.{Settings}
@@ -22,7 +22,7 @@ pub loop-b-preserved : goal.loop-b-preserved
 loop-b-preserved c =
     let l = c.loop-b in
     let at = c.link_at-at in
-    ap (λ (d : List ℕ). set d at.result (l.b + 1)) l.invariant
+    ap₂ (λ (d : List ℕ) (x : ℕ). set d at.result x) l.invariant (omega arith)
     ∙ linked_turn c.args.s c.requires.in_range l.b at.result (omega arith) (omega arith) at.ensures.is
 
 pub returns : goal.returns
